@@ -1,0 +1,17 @@
+pub mod Number
+pub mod Vector
+pub mod Problem
+pub mod Solve
+pub mod Compact
+pub mod Geometry
+pub mod Counters
+pub mod Gradient
+pub mod Search
+pub mod Machine
+pub mod Driver
+pub mod Log
+pub mod Record
+pub mod History
+pub mod Programs
+pub mod Starred
+pub mod Replies

@@ -1,0 +1,78 @@
+-- The log: one entry a reply, in words. Lists of replies stand newest first, the log's words oldest first.
+use Prim.Native.Nat.{ℕ, zero, suc, _+_, _-_}
+use mathlib.Core.Bool.{cond}
+use mathlib.Core.List.{List, [], _∷_, _++_}
+use mathlib.Core.Option.{Option, none, some}
+use lib.Dec.{eqb, ltb}
+use lib.ListN.{length, take, drop}
+use Rattle.definition.specs.Problem.{Setup, Check, dimension}
+use Rattle.definition.specs.Machine.{Reply, Machine, checkDue}
+use Rattle.definition.specs.Driver.{answer, begin}
+
+-- the kind, then the reply's words
+abbrev pub entryWords : Reply → List ℕ
+entryWords (Reply.value v) = 1 ∷ v ∷ []
+entryWords (Reply.gradient ws) = 2 ∷ ws
+entryWords Reply.notSupplied = 3 ∷ []
+entryWords Reply.goOn = 4 ∷ []
+entryWords Reply.stop = 5 ∷ []
+entryWords Reply.failure = 6 ∷ []
+
+unfoldable pub logWords : List Reply → List ℕ
+logWords [] = []
+logWords (r ∷ rs) = logWords rs ++ entryWords r
+
+-- ---- reading an entry: none where it is unknown or cut
+
+abbrev pub valueEntry : List ℕ → Option Reply
+valueEntry [] = none
+valueEntry (v ∷ ws) = some (Reply.value v)
+
+abbrev pub gradientEntry : ℕ → List ℕ → Option Reply
+gradientEntry n ws = cond (ltb (length ws) n) none (some (Reply.gradient (take n ws)))
+
+-- the entry of kind k, with ws behind it
+abbrev pub entryOf : ℕ → ℕ → List ℕ → Option Reply
+entryOf n k ws =
+    cond (eqb k 1) (valueEntry ws)
+    (cond (eqb k 2) (gradientEntry n ws)
+    (cond (eqb k 3) (some Reply.notSupplied)
+    (cond (eqb k 4) (some Reply.goOn)
+    (cond (eqb k 5) (some Reply.stop)
+    (cond (eqb k 6) (some Reply.failure) none)))))
+
+-- ---- reading all entries into a log of `room` words
+
+pub data Entries : Type 0 where
+  -- all are read
+  kept : List Reply → Entries
+  -- refused at an entry: 17 unknown, cut or not due; 12 no room for it in the log
+  refusedAt : ℕ → Entries
+  -- words still to read, the replies so far and the machine that they lead to
+  going : List ℕ → List Reply → Machine → Entries
+
+abbrev pub admitDue : ℕ → List ℕ → List Reply → Machine → Reply → Check → Entries
+admitDue room ws rs m r (some c) = Entries.refusedAt 17
+admitDue room ws rs m r none =
+    cond (ltb room (length (logWords rs) + length (entryWords r))) (Entries.refusedAt 12)
+    (Entries.going (drop (length (entryWords r) - 1) ws) (r ∷ rs) (answer m r))
+
+abbrev pub admit : ℕ → List ℕ → List Reply → Machine → Option Reply → Entries
+admit room ws rs m none = Entries.refusedAt 17
+admit room ws rs m (some r) = admitDue room ws rs m r (checkDue m r)
+
+abbrev pub nextEntry : ℕ → List ℕ → List Reply → Machine → Entries
+nextEntry room [] rs m = Entries.kept rs
+nextEntry room (k ∷ ws) rs m = admit room ws rs m (entryOf (m .terms .n) k ws)
+
+-- at most `left` entries, which as many as there are words always suffices for
+unfoldable pub readEntries : ℕ → ℕ → Entries → Entries
+readEntries zero room (Entries.kept rs) = Entries.kept rs
+readEntries zero room (Entries.refusedAt c) = Entries.refusedAt c
+readEntries zero room (Entries.going ws rs m) = Entries.refusedAt 17
+readEntries (suc left) room (Entries.kept rs) = Entries.kept rs
+readEntries (suc left) room (Entries.refusedAt c) = Entries.refusedAt c
+readEntries (suc left) room (Entries.going ws rs m) = readEntries left room (nextEntry room ws rs m)
+
+abbrev pub entriesOf : Setup → ℕ → List ℕ → Entries
+entriesOf s room ws = readEntries (length ws + 1) room (Entries.going ws [] (begin s))
