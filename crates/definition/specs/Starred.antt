@@ -7,7 +7,7 @@ use mathlib.Core.Option.{Option, none, some}
 use lib.IntN.{pos, negsuc}
 use lib.ListN.{replicate, drop}
 use lib.Ieee.{Float, nan, fin}
-use Rattle.definition.specs.Number.{zero64, negZero, one64, two64, infinity, negInfinity, toWord}
+use Rattle.definition.specs.Number.{zero64, one64, two64, infinity, negInfinity, toWord}
 use Rattle.definition.specs.Vector.{dot}
 use Rattle.definition.specs.Problem.{Setup, Bounds, Scheme, refuse, validate}
 use Rattle.definition.specs.Solve.{Matrix, pivotOf, solve}
@@ -170,7 +170,7 @@ orders =
     -- a pair that is not accepted costs no old one
     ∷ (update 1 1 fullMemory (half^52 ∷ []) (one64 ∷ []) ≡ fullMemory)
     -- a sum starts at -0
-    ∷ (dot 1 (zero64 ∷ []) (minusOne ∷ []) ≡ negZero)
+    ∷ (dot 1 (zero64 ∷ []) (minusOne ∷ []) ≡ fin true 0 (pos 0))
     -- the iteration budget comes before convergence, and stop before both
     ∷ (report (run oneIteration parabolaReplies) ≡ reported 3 1 2 2 zero64 zero64)
     ∷ (report (run oneIteration (Reply.stop ∷ drop 1 parabolaReplies)) ≡ reported 5 1 2 2 zero64 zero64)
