@@ -1,3 +1,12 @@
 pub mod Opened
 pub mod Starred
 pub mod Example
+pub mod Order
+pub mod Sign
+pub mod Rounding
+pub mod Vectors
+pub mod Finite
+pub mod Addition
+pub mod Descent
+pub mod Constants
+pub mod Steps
