@@ -1,3 +1,5 @@
 pub mod Opened
 pub mod Starred
 pub mod Example
+pub mod Lists
+pub mod Path
