@@ -2,7 +2,7 @@
 use Prim.Native.Nat.{ℕ, zero, suc, _<_}
 use native.Mathlib.Omega.{arith}
 use mathlib.Core.List.{List, [], _∷_, _++_, map}
-use lib.ListN.{length, getD, take, drop}
+use lib.ListN.{length, getD, take, drop, set}
 use Rattle.definition.specs.Values.{Each}
 
 module _ {A : Type 0} (P : A → Type 0) where
@@ -32,6 +32,11 @@ module _ {A : Type 0} (P : A → Type 0) where
   each-drop zero l h = h
   each-drop (suc k) [] h = tt
   each-drop (suc k) (a ∷ l) h = each-drop k l (h .1)
+
+  pub each-set : (l : List A) (i : ℕ) (a : A) → Each P l → P a → Each P (set l i a)
+  each-set [] i a h k = tt
+  each-set (b ∷ l) zero a h k = (k, h .1)
+  each-set (b ∷ l) (suc i) a h k = (h .0, each-set l i a (h .1) k)
 
 pub each-map : {A B : Type 0} (P : A → Type 0) (Q : B → Type 0) (f : A → B) (l : List A) → ((a : A) → P a → Q (f a)) → Each P l → Each Q (map f l)
 each-map P Q f [] h k = tt

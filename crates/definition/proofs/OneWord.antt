@@ -1,0 +1,70 @@
+-- A change of exactly one word before the trailer is refused by 18, whatever the words: the plain sum is another one. Assumes nothing.
+use Prim.Native.Nat.{ℕ, zero, suc, _+_, _%_, _<_}
+use native.Mathlib.Omega.{arith}
+use mathlib.Core.Path.{_≡_, refl, sym, ap, _∙_, subst}
+use mathlib.Core.Logic.{_≢_}
+use mathlib.Core.Bool.{false}
+use mathlib.Core.List.{List, [], _∷_, _++_}
+use lib.Dec.{eqb}
+use lib.ListN.{length, getD, set, length-set}
+use borrow.Author.Tests.{ne-eqb}
+use Rattle.definition.specs.Problem.{refuse, when}
+use Rattle.definition.specs.Record.{Lengths, Reading, Sums, wordSize, added, sumsFrom, sums, trailer, bytes, plainRefusal, checkWords, readWords, readRecord}
+use Rattle.definition.specs.Values.{Words}
+use Rattle.definition.proofs.Lists.{each-at, each-set}
+use Rattle.definition.proofs.Bytes.{trailing, read-framed}
+
+total : List ℕ → ℕ
+total [] = 0
+total (w ∷ ws) = w + total ws
+
+total-set : (ws : List ℕ) (i w : ℕ) → i < length ws → total (set ws i w) + getD ws i 0 ≡ total ws + w
+unfolding total
+total-set [] i w h = absurd (omega arith)
+total-set (v ∷ ws) zero w h = omega arith
+total-set (v ∷ ws) (suc i) w h = let e = total-set ws i w (omega arith) in omega arith
+
+plain-from : (ws : List ℕ) (t : Sums) → t .plain < wordSize → sumsFrom ws t .plain ≡ (t .plain + total ws) % wordSize
+unfolding sumsFrom total
+plain-from [] t h = omega arith
+plain-from (w ∷ ws) t h = let e = plain-from ws (added w t) (omega arith) in omega arith
+
+record SumsBelow (t : Sums) : Type 0 where
+  plain : t .plain < wordSize
+  running : t .running < wordSize
+
+sums-below : (ws : List ℕ) (t : Sums) → SumsBelow t → SumsBelow (sumsFrom ws t)
+unfolding sumsFrom
+sums-below [] t h = h
+sums-below (w ∷ ws) t h = sums-below ws (added w t) (record { plain = omega arith; running = omega arith })
+
+pub trailer-words : (ws : List ℕ) → length ws < wordSize → Words (trailer ws)
+trailer-words ws h =
+    let k = sums-below ws (record { plain = 0; running = 0 }) (record { plain = omega arith; running = omega arith }) in
+    (k .plain, (k .running, (omega arith, (h, tt))))
+
+plain-changes : (ws : List ℕ) (i w : ℕ) → Words ws → i < length ws → w < wordSize → w ≢ getD ws i 0 → sums (set ws i w) .plain ≢ sums ws .plain
+plain-changes ws i w h k l n e =
+    let start : Sums = record { plain = 0; running = 0 } in
+    let a = plain-from (set ws i w) start (omega arith) in
+    let b = plain-from ws start (omega arith) in
+    let c = total-set ws i w k in
+    let d = each-at (λ v. v < wordSize) ws i 0 h k in
+    n (same (total (set ws i w)) (total ws) w (getD ws i 0) l d c (sym a ∙ e ∙ b))
+  where
+    same : (x y w v : ℕ) → w < wordSize → v < wordSize → x + v ≡ y + w → (0 + x) % wordSize ≡ (0 + y) % wordSize → w ≡ v
+    same x y w v l d c e = omega arith
+
+-- words under a trailer of other words' sums
+pub one-changed-word : (z : Lengths) (ahead ws : List ℕ) (i w : ℕ) → Words ws → length ws < wordSize → i < length ws → w < wordSize → w ≢ getD ws i 0
+    → readRecord z (ahead ++ bytes (set ws i w ++ trailer ws)) ≡ Reading.refused (plainRefusal 18)
+unfolding readWords checkWords
+one-changed-word z ahead ws i w h size k l n =
+    let p = sums ws .plain in
+    let q = sums ws .running in
+    let same : length ws ≡ length (set ws i w) = sym (length-set ws i w) in
+    let t = trailer-words ws size in
+    let test : eqb (sums (set ws i w) .plain) p ≡ false = ne-eqb (sums (set ws i w) .plain) p (plain-changes ws i w h k l n) in
+    ap (λ (c : ℕ). readRecord z (ahead ++ bytes (set ws i w ++ trailing p q c))) same
+    ∙ read-framed z ahead (set ws i w) p q (each-set _ ws i w h l) (subst (λ (c : ℕ). Words (trailing p q c)) same t)
+    ∙ rw test
