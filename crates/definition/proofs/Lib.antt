@@ -6,3 +6,4 @@ pub mod Path
 pub mod Bytes
 pub mod OneWord
 pub mod Setups
+pub mod Entries
