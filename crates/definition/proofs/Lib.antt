@@ -7,3 +7,5 @@ pub mod Bytes
 pub mod OneWord
 pub mod Setups
 pub mod Entries
+pub mod SetupWords
+pub mod RoundTrip

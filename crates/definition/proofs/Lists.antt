@@ -38,6 +38,10 @@ module _ {A : Type 0} (P : A → Type 0) where
   each-set (b ∷ l) zero a h k = (k, h .1)
   each-set (b ∷ l) (suc i) a h k = (h .0, each-set l i a (h .1) k)
 
+pub each-so : {A : Type 0} (P Q : A → Type 0) (l : List A) → ((a : A) → P a → Q a) → Each P l → Each Q l
+each-so P Q [] h k = tt
+each-so P Q (a ∷ l) h k = (h a (k .0), each-so P Q l h (k .1))
+
 pub each-map : {A B : Type 0} (P : A → Type 0) (Q : B → Type 0) (f : A → B) (l : List A) → ((a : A) → P a → Q (f a)) → Each P l → Each Q (map f l)
 each-map P Q f [] h k = tt
 each-map P Q f (a ∷ l) h k = (h a (k .0), each-map P Q f l h (k .1))

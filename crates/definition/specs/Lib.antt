@@ -17,3 +17,4 @@ pub mod Starred
 pub mod Replies
 pub mod Values
 pub mod Paths
+pub mod Sound
