@@ -9,3 +9,4 @@ pub mod Setups
 pub mod Entries
 pub mod SetupWords
 pub mod RoundTrip
+pub mod Histories
