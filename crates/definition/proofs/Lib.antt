@@ -10,3 +10,4 @@ pub mod Entries
 pub mod SetupWords
 pub mod RoundTrip
 pub mod Histories
+pub mod Ordered

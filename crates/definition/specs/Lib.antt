@@ -18,3 +18,4 @@ pub mod Replies
 pub mod Values
 pub mod Paths
 pub mod Sound
+pub mod Ordered

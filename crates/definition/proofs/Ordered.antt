@@ -1,0 +1,141 @@
+-- The history with the replies in the order given, an accepted one appended and the last j struck, is the definition's: the same after
+-- every list of calls, with the same answers. Assumes nothing.
+use Prim.Native.Nat.{ℕ, zero, suc, _+_, _-_, _*_, _≤_, _<_}
+use native.Mathlib.Nat.{eq-or-lt-of-le, le-of-suc-le-suc}
+use native.Mathlib.Omega.{arith}
+use mathlib.Core.Path.{_≡_, refl, sym, ap, ap₂, _∙_}
+use mathlib.Core.Logic.{_⊎_, inl, inr}
+use mathlib.Core.Bool.{Bool, true, false, cond}
+use mathlib.Core.List.{List, [], _∷_, _++_, reverse, reverse-cons, append-nil, append-assoc}
+use mathlib.Core.Option.{Option, none, some}
+use lib.Dec.{ltb}
+use lib.ListN.{length, take, drop, getD, length-append, length-reverse, List·getD-append}
+use lib.Seq.{take-all, take-append-le, getD-at}
+use borrow.Author.Tests.{ltb-true}
+use Rattle.definition.specs.Problem.{Setup, Refusal, Check, refuse, when, _then_, validate, dimension}
+use Rattle.definition.specs.Machine.{Reply, Machine, checkDue, question, report, unreported}
+use Rattle.definition.specs.Driver.{answer, begin, run}
+use Rattle.definition.specs.Log.{entryWords, logWords}
+use Rattle.definition.specs.Record.{Lengths, Reading, setupWords, trailer, bytes, recordWords, recordBytes, readRecord}
+use Rattle.definition.specs.History.{Call, Answer, History, outputShort, checkQuestion, checkReply, logShort, entryAt, refusal, left, accepted, restored, restoredAnswer, leftUnless, answerUnless, historyStep, historyAnswer, historyAfter, historyAnswers}
+use Rattle.definition.specs.Ordered.{Ordered, runFrom, runInOrder, logInOrder, recordInOrder, shortInOrder, entryInOrder, Outcome, checked, restoring, outcome, orderedAfter, orderedAnswers, inOrder}
+
+-- ---- replies turned round
+
+run-append : (m : Machine) (rs : List Reply) (r : Reply) → runFrom m (rs ++ (r ∷ [])) ≡ answer (runFrom m rs) r
+run-append m [] r = refl
+run-append m (q ∷ rs) r = run-append (answer m q) rs r
+
+run-is : (s : Setup) (rs : List Reply) → runInOrder s (reverse rs) ≡ run s rs
+unfolding run
+run-is s [] = refl
+run-is s (r ∷ rs) = ap (runInOrder s) (reverse-cons r rs) ∙ run-append (begin s) (reverse rs) r ∙ ap (λ (m : Machine). answer m r) (run-is s rs)
+
+log-append : (rs : List Reply) (r : Reply) → logInOrder (rs ++ (r ∷ [])) ≡ logInOrder rs ++ entryWords r
+log-append [] r = append-nil (entryWords r)
+log-append (q ∷ rs) r = ap (λ (l : List ℕ). entryWords q ++ l) (log-append rs r) ∙ sym (append-assoc (entryWords q) (logInOrder rs) (entryWords r))
+
+log-is : (rs : List Reply) → logInOrder (reverse rs) ≡ logWords rs
+unfolding logWords
+log-is [] = refl
+log-is (r ∷ rs) = ap logInOrder (reverse-cons r rs) ∙ log-append (reverse rs) r ∙ ap (λ (l : List ℕ). l ++ entryWords r) (log-is rs)
+
+record-is : (s : Setup) (rs : List Reply) → recordInOrder s (reverse rs) ≡ recordWords s rs
+unfolding recordWords
+record-is s rs = ap (λ (l : List ℕ). let ws = setupWords s ++ l in ws ++ trailer ws) (log-is rs)
+
+struck-is : (j : ℕ) (rs : List Reply) → take (length rs - j) (reverse rs) ≡ reverse (drop j rs)
+struck-is zero rs = take-all (length rs - 0) (reverse rs) (omega (arith, length-reverse rs))
+struck-is (suc j) [] = let e : 0 - suc j ≡ 0 = omega arith in ap (λ (n : ℕ). take n (reverse [])) e
+struck-is (suc j) (r ∷ rs) =
+    let e : suc (length rs) - suc j ≡ length rs - j = omega arith in
+    ap₂ (λ (n : ℕ) (l : List Reply). take n l) e (reverse-cons r rs)
+    ∙ take-append-le (length rs - j) (reverse rs) (r ∷ []) (omega (arith, length-reverse rs))
+    ∙ struck-is j rs
+
+reply-at : (rs : List Reply) (k : ℕ) (d : Reply) → k < length rs → getD (reverse rs) k d ≡ getD rs (length rs - (k + 1)) d
+reply-at [] k d h = absurd (omega arith)
+reply-at (r ∷ rs) k d h =
+    ap (λ (l : List Reply). getD l k d) (reverse-cons r rs) ∙ go (reply-at rs k d) (eq-or-lt-of-le (le-of-suc-le-suc h))
+  where
+    go : (k < length rs → getD (reverse rs) k d ≡ getD rs (length rs - (k + 1)) d) → (k ≡ length rs) ⊎ (k < length rs)
+        → getD (reverse rs ++ (r ∷ [])) k d ≡ getD (r ∷ rs) (suc (length rs) - (k + 1)) d
+    go ih (inl e) =
+        let at : suc (length rs) - (k + 1) ≡ 0 = omega arith in
+        getD-at (reverse rs) r [] d k (length-reverse rs ∙ sym e) ∙ ap (λ (i : ℕ). getD (r ∷ rs) i d) (sym at)
+    go ih (inr l) =
+        let at : suc (length rs) - (k + 1) ≡ suc (length rs - (k + 1)) = omega arith in
+        List·getD-append (reverse rs) (r ∷ []) d k (omega (arith, length-reverse rs)) ∙ ih l ∙ ap (λ (i : ℕ). getD (r ∷ rs) i d) (sym at)
+
+entry-is : (rs : List Reply) (k : ℕ) → entryInOrder (reverse rs) k ≡ entryAt rs k
+entry-is rs k = ap (λ (n : ℕ). cond (ltb k n) (entryWords (getD (reverse rs) k Reply.failure)) []) (length-reverse rs) ∙ go (ltb k (length rs)) refl
+  where
+    go : (t : Bool) → ltb k (length rs) ≡ t → cond t (entryWords (getD (reverse rs) k Reply.failure)) [] ≡ cond t (entryWords (getD rs (length rs - (k + 1)) Reply.failure)) []
+    go true e = ap entryWords (reply-at rs k Reply.failure (ltb-true k (length rs) e))
+    go false e = refl
+
+-- ---- one call
+
+record Same (o : Outcome) (h : History) (a : Answer) : Type 0 where
+  history : o .history ≡ inOrder h
+  answer : o .answer ≡ a
+
+same-checked : (h : History) (c : Call) (o : Check) (l : Ordered) (a : Answer) → l ≡ inOrder (left h c) → a ≡ accepted h c
+    → Same (checked o (inOrder h) l a) (leftUnless o h c) (answerUnless o h c)
+same-checked h c none l a f g = record { history = f; answer = g }
+same-checked h c (some r) l a f g = record { history = refl; answer = refl }
+
+-- a call that leaves the history whether or not it is refused
+same-asked : (h : History) (c : Call) (o : Check) → Same (checked o (inOrder h) (inOrder h) (accepted h c)) h (answerUnless o h c)
+same-asked h c none = record { history = refl; answer = refl }
+same-asked h c (some r) = record { history = refl; answer = refl }
+
+same-restored : (h : History) (r : Reading) → Same (restoring (inOrder h) r) (restored h r) (restoredAnswer r)
+same-restored h (Reading.accepted s rs) = record { history = refl; answer = refl }
+same-restored h (Reading.refused c) = record { history = refl; answer = refl }
+same-restored h (Reading.refusedAtEntry c) = record { history = refl; answer = refl }
+
+same-call : (z : Lengths) (h : History) (c : Call) → Same (outcome z (inOrder h) c) (historyStep z h c) (historyAnswer z h c)
+unfolding recordBytes
+same-call z h (Call.start s) = same-checked h (Call.start s) (refusal z h (Call.start s)) (Ordered.fit s []) Answer.done refl refl
+same-call z h (Call.restore bs) = same-restored h (readRecord z bs)
+same-call z History.empty (Call.reply r) = record { history = refl; answer = refl }
+same-call z (History.fit s rs) (Call.reply r) =
+    rw (run-is s rs, log-is rs) (same-checked (History.fit s rs) (Call.reply r) (checkReply z s rs r) (Ordered.fit s (reverse rs ++ (r ∷ []))) Answer.done (ap (Ordered.fit s) (sym (reverse-cons r rs))) refl)
+same-call z History.empty (Call.takeBack j) = same-checked History.empty (Call.takeBack j) (refusal z History.empty (Call.takeBack j)) Ordered.empty Answer.done refl refl
+same-call z (History.fit s rs) (Call.takeBack j) =
+    rw (length-reverse rs, log-is rs)
+    (same-checked (History.fit s rs) (Call.takeBack j) (refusal z (History.fit s rs) (Call.takeBack j)) (Ordered.fit s (take (length rs - j) (reverse rs))) Answer.done (ap (Ordered.fit s) (struck-is j rs)) refl)
+same-call z History.empty (Call.question room) = record { history = refl; answer = refl }
+same-call z (History.fit s rs) (Call.question room) =
+    rw (run-is s rs) (same-asked (History.fit s rs) (Call.question room) (refusal z (History.fit s rs) (Call.question room)))
+same-call z History.empty (Call.report room) = record { history = refl; answer = refl }
+same-call z (History.fit s rs) (Call.report room) = rw (run-is s rs) (same-asked (History.fit s rs) (Call.report room) (refusal z (History.fit s rs) (Call.report room)))
+same-call z History.empty Call.replies = record { history = refl; answer = refl }
+same-call z (History.fit s rs) Call.replies = record { history = refl; answer = ap Answer.counted (length-reverse rs) }
+same-call z History.empty (Call.entry k room) = record { history = refl; answer = refl }
+same-call z (History.fit s rs) (Call.entry k room) =
+    rw (entry-is rs k, log-is rs) (same-asked (History.fit s rs) (Call.entry k room) (refusal z (History.fit s rs) (Call.entry k room)))
+same-call z History.empty (Call.save room) = record { history = refl; answer = refl }
+same-call z (History.fit s rs) (Call.save room) =
+    rw (record-is s rs, log-is rs) (same-asked (History.fit s rs) (Call.save room) (refusal z (History.fit s rs) (Call.save room)))
+
+-- ---- every list of calls
+
+after-same : (z : Lengths) (h : History) (cs : List Call) → orderedAfter z (inOrder h) cs ≡ inOrder (historyAfter z h cs)
+unfolding orderedAfter historyAfter
+after-same z h [] = refl
+after-same z h (c ∷ cs) = ap (λ (o : Ordered). orderedAfter z o cs) (same-call z h c .history) ∙ after-same z (historyStep z h c) cs
+
+answers-same : (z : Lengths) (h : History) (cs : List Call) → orderedAnswers z (inOrder h) cs ≡ historyAnswers z h cs
+unfolding orderedAnswers historyAnswers
+answers-same z h [] = refl
+answers-same z h (c ∷ cs) =
+    ap₂ (λ (a : Answer) (l : List Answer). a ∷ l) (same-call z h c .answer)
+    (ap (λ (o : Ordered). orderedAnswers z o cs) (same-call z h c .history) ∙ answers-same z (historyStep z h c) cs)
+
+pub ordered-history : (z : Lengths) (cs : List Call) → orderedAfter z Ordered.empty cs ≡ inOrder (historyAfter z History.empty cs)
+ordered-history z cs = after-same z History.empty cs
+
+pub ordered-answers : (z : Lengths) (cs : List Call) → orderedAnswers z Ordered.empty cs ≡ historyAnswers z History.empty cs
+ordered-answers z cs = answers-same z History.empty cs
