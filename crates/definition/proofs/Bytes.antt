@@ -1,6 +1,5 @@
 -- Words to bytes and back, bytes to words and back, and where a record stands in the bytes that hold it. Assumes nothing.
 use Prim.Native.Nat.{ℕ, zero, suc, _+_, _-_, _*_, _/_, _%_, _^_, _≤_, _<_}
-use native.Mathlib.Nat.{pow-suc}
 use native.Mathlib.Omega.{arith}
 use mathlib.Core.Path.{_≡_, refl, sym, ap, ap₂, _∙_, subst}
 use mathlib.Core.Bool.{Bool, true, false, cond, _&&_}
@@ -11,7 +10,7 @@ use lib.Seq.{take-at, drop-at, take-add, take-all, drop-drop, length-take-le}
 use borrow.Author.Tests.{eqb-true, ltb-false, leb-true, le-ltb, le-leb}
 use Rattle.definition.specs.Problem.{Setup, Refusal}
 use Rattle.definition.specs.Machine.{Reply}
-use Rattle.definition.specs.Record.{Lengths, Reading, wordSize, writtenVersion, knownVersion, bytesOf, bytes, numberOf, wordsOf, framed, plainRefusal, readTrailed, readWords, readRecord}
+use Rattle.definition.specs.Record.{Lengths, Reading, writtenVersion, knownVersion, bytesOf, bytes, numberOf, wordsOf, plainRefusal, readTrailed, readWords, readRecord}
 use Rattle.definition.specs.Values.{Bytes, Words}
 use Rattle.definition.proofs.Lists.{each-take, each-drop}
 

@@ -3,9 +3,9 @@
 use Prim.Native.Nat.{ℕ, zero, suc, _+_, _*_, _≤_, _<_}
 use native.Mathlib.Omega.{arith}
 use mathlib.Core.Path.{_≡_, refl, sym, ap, _∙_, subst}
-use mathlib.Core.Bool.{Bool, true, false, cond}
+use mathlib.Core.Bool.{cond}
 use mathlib.Core.List.{List, [], _∷_, _++_, map, reverse, reverseAux, reverseAux-eq, reverse-reverse}
-use mathlib.Core.Option.{Option, none, some}
+use mathlib.Core.Option.{none, some}
 use lib.Dec.{ltb}
 use lib.ListN.{length, take, drop, length-append, length-reverse, length-reverseAux, take-append-drop}
 use lib.Seq.{drop-at}
@@ -16,7 +16,7 @@ use Rattle.definition.specs.Driver.{run}
 use Rattle.definition.specs.Log.{entryWords, logWords}
 use Rattle.definition.specs.Record.{Lengths, Reading, wordSize, checkArea, readRecord, recordWords, recordBytes}
 use Rattle.definition.specs.Replies.{Due}
-use Rattle.definition.specs.History.{Call, Answer, History, logShort, outputShort, checkReply, refusal, left, accepted, restored, restoredAnswer, leftUnless, answerUnless, stepOther, answerOther, historyStep, historyAnswer, historyAfter, historyAnswers}
+use Rattle.definition.specs.History.{Call, Answer, History, logShort, outputShort, checkReply, refusal, left, accepted, restored, restoredAnswer, leftUnless, answerUnless, historyStep, historyAnswer, historyAfter, historyAnswers}
 use Rattle.definition.specs.Values.{Each, SetupFloats, ReplyWords, Brings}
 use Rattle.definition.specs.Sound.{Sound, atEntry, refusedAtEntry}
 use Rattle.definition.proofs.Lists.{each-drop, each-of}

@@ -1,14 +1,13 @@
 -- A change of exactly one word before the trailer is refused by 18, whatever the words: the plain sum is another one. Assumes nothing.
 use Prim.Native.Nat.{ℕ, zero, suc, _+_, _%_, _<_}
 use native.Mathlib.Omega.{arith}
-use mathlib.Core.Path.{_≡_, refl, sym, ap, _∙_, subst}
+use mathlib.Core.Path.{_≡_, sym, ap, _∙_, subst}
 use mathlib.Core.Logic.{_≢_}
 use mathlib.Core.Bool.{false}
 use mathlib.Core.List.{List, [], _∷_, _++_}
 use lib.Dec.{eqb}
 use lib.ListN.{length, getD, set, length-set}
 use borrow.Author.Tests.{ne-eqb}
-use Rattle.definition.specs.Problem.{refuse, when}
 use Rattle.definition.specs.Record.{Lengths, Reading, Sums, wordSize, added, sumsFrom, sums, trailer, bytes, plainRefusal, checkWords, readWords, readRecord}
 use Rattle.definition.specs.Values.{Words}
 use Rattle.definition.proofs.Lists.{each-at, each-set}

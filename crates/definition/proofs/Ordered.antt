@@ -1,24 +1,24 @@
 -- The history with the replies in the order given, an accepted one appended and the last j struck, is the definition's: the same after
 -- every list of calls, with the same answers. Assumes nothing.
-use Prim.Native.Nat.{ℕ, zero, suc, _+_, _-_, _*_, _≤_, _<_}
+use Prim.Native.Nat.{ℕ, zero, suc, _+_, _-_, _<_}
 use native.Mathlib.Nat.{eq-or-lt-of-le, le-of-suc-le-suc}
 use native.Mathlib.Omega.{arith}
 use mathlib.Core.Path.{_≡_, refl, sym, ap, ap₂, _∙_}
 use mathlib.Core.Logic.{_⊎_, inl, inr}
 use mathlib.Core.Bool.{Bool, true, false, cond}
 use mathlib.Core.List.{List, [], _∷_, _++_, reverse, reverse-cons, append-nil, append-assoc}
-use mathlib.Core.Option.{Option, none, some}
+use mathlib.Core.Option.{none, some}
 use lib.Dec.{ltb}
-use lib.ListN.{length, take, drop, getD, length-append, length-reverse, List·getD-append}
+use lib.ListN.{length, take, drop, getD, length-reverse, List·getD-append}
 use lib.Seq.{take-all, take-append-le, getD-at}
 use borrow.Author.Tests.{ltb-true}
-use Rattle.definition.specs.Problem.{Setup, Refusal, Check, refuse, when, _then_, validate, dimension}
-use Rattle.definition.specs.Machine.{Reply, Machine, checkDue, question, report, unreported}
+use Rattle.definition.specs.Problem.{Setup, Check}
+use Rattle.definition.specs.Machine.{Reply, Machine, question, report}
 use Rattle.definition.specs.Driver.{answer, begin, run}
 use Rattle.definition.specs.Log.{entryWords, logWords}
-use Rattle.definition.specs.Record.{Lengths, Reading, setupWords, trailer, bytes, recordWords, recordBytes, readRecord}
-use Rattle.definition.specs.History.{Call, Answer, History, outputShort, checkQuestion, checkReply, logShort, entryAt, refusal, left, accepted, restored, restoredAnswer, leftUnless, answerUnless, historyStep, historyAnswer, historyAfter, historyAnswers}
-use Rattle.definition.specs.Ordered.{Ordered, runFrom, runInOrder, logInOrder, recordInOrder, shortInOrder, entryInOrder, Outcome, checked, restoring, outcome, orderedAfter, orderedAnswers, inOrder}
+use Rattle.definition.specs.Record.{Lengths, Reading, setupWords, trailer, recordWords, recordBytes, readRecord}
+use Rattle.definition.specs.History.{Call, Answer, History, checkReply, entryAt, refusal, left, accepted, restored, restoredAnswer, leftUnless, answerUnless, historyStep, historyAnswer, historyAfter, historyAnswers}
+use Rattle.definition.specs.Ordered.{Ordered, runFrom, runInOrder, logInOrder, recordInOrder, entryInOrder, Outcome, checked, restoring, outcome, orderedAfter, orderedAnswers, inOrder}
 
 -- ---- replies turned round
 

@@ -17,7 +17,7 @@ use Rattle.definition.specs.Problem.{Bounds}
 use Rattle.definition.specs.Compact.{Compact, product}
 use Rattle.definition.specs.Geometry.{Break, noBreak, inserted, breakTime, breaksOf, Path, Segment, ended, onward, pointOnPath, travelled, stopped, stopAll, passed, along, bySlope, byProducts, still, segment, walk, pathStart, generalizedCauchy}
 use Rattle.definition.specs.Values.{Each}
-use Rattle.definition.specs.Paths.{firstSegment, segmentBehind, segmentAfter}
+use Rattle.definition.specs.Paths.{firstSegment, segmentAfter}
 use Rattle.definition.proofs.Lists.{each-at}
 
 -- ---- the break times are finite, and no more than the coordinates

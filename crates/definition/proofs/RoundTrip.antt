@@ -5,23 +5,23 @@ use native.Mathlib.Omega.{arith}
 use mathlib.Core.Path.{_≡_, refl, sym, ap, ap₂, _∙_, subst}
 use mathlib.Core.Logic.{_≢_}
 use mathlib.Core.Bool.{Bool, true, false, not, _&&_, _||_}
-use mathlib.Core.List.{List, [], _∷_, _++_, append-assoc, append-nil}
-use mathlib.Core.Option.{Option, none, some}
-use lib.Dec.{eqb, ltb, leb}
-use lib.ListN.{length, getD, set, take, drop, length-append, take-append-drop, List·getD-append}
+use mathlib.Core.List.{List, [], _∷_, _++_, append-nil}
+use mathlib.Core.Option.{none, some}
+use lib.Dec.{eqb, ltb}
+use lib.ListN.{length, getD, set, drop, length-append, take-append-drop, List·getD-append}
 use lib.Seq.{drop-at, set-append-left}
-use borrow.Author.Tests.{eqb-true, eq-eqb, ltb-false, le-ltb, leb-false, lt-leb, not-false}
-use Rattle.definition.specs.Problem.{Setup, Refusal, Check, refuse, when, _then_, validate, areaNeeded}
+use borrow.Author.Tests.{eqb-true, eq-eqb, ltb-false, le-ltb, leb-false, lt-leb}
+use Rattle.definition.specs.Problem.{Setup, Check, refuse, when, _then_, validate, areaNeeded}
 use Rattle.definition.specs.Machine.{Reply}
 use Rattle.definition.specs.Log.{entryWords, logWords, Entries, entriesOf}
 use Rattle.definition.specs.Record.{Lengths, Reading, wordSize, setupWords, setupLength, setupIn, spareBits, sums, trailer, recordWords, recordBytes, bytes, plainRefusal, readingOf, checkArea, sameSums, malformed, checkWords, unlessRefused, readWords, readRecord}
-use Rattle.definition.specs.Replies.{Accepted, Due}
-use Rattle.definition.specs.Values.{Each, Bytes, Words, SetupFloats, ReplyWords}
+use Rattle.definition.specs.Replies.{Accepted}
+use Rattle.definition.specs.Values.{Bytes, Words, SetupFloats, ReplyWords}
 use Rattle.definition.specs.Sound.{Sound}
-use Rattle.definition.proofs.Lists.{each-join, each-split, each-drop}
+use Rattle.definition.proofs.Lists.{each-join, each-split}
 use Rattle.definition.proofs.Bytes.{trailing, read-framed, Framed, accepted-framed}
 use Rattle.definition.proofs.OneWord.{trailer-words, one-changed-word}
-use Rattle.definition.proofs.Setups.{both-passed, test-failed, Passed, accepted-passed}
+use Rattle.definition.proofs.Setups.{both-passed, test-failed, accepted-passed}
 use Rattle.definition.proofs.Entries.{Read, log-back, log-sound}
 use Rattle.definition.proofs.SetupWords.{setup-back, shape-small, setup-length, setup-words, setup-read, words-of-setup}
 

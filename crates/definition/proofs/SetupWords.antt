@@ -12,15 +12,14 @@ use lib.Seq.{take-at, drop-at, take-add, drop-drop, length-take-le}
 use lib.Ieee.{Float, binary64, isNan, ofBits}
 use lib.Ieee.Bits.{ofBits-toBits, toBits-ofBits, toBits-lt, ofBits-fits}
 use lib.Ieee.Scale.{finite}
-use borrow.Author.Tests.{eqb-true, eqb-false, ne-eqb, eq-eqb}
+use borrow.Author.Tests.{eqb-true, ne-eqb}
 use Rattle.definition.specs.Number.{toFloat, toWord}
 use Rattle.definition.specs.Vector.{tab}
 use Rattle.definition.specs.Problem.{Setup, Bounds, Scheme, mostBudget, mostPairs, dimension, orElse}
 use Rattle.definition.specs.Record.{absent, optionalFloat, boxFlag, schemeFlag, boundWords, shapeWord, setupWords, floatGiven, countGiven, nIn, maxcorIn, hasBox, setupLength, floatsAt, boundsIn, schemeIn, setupIn, wordSize}
-use Rattle.definition.specs.Replies.{Accepted}
 use Rattle.definition.specs.Values.{Each, Given, Words, Binary64, BoxFloats, SetupFloats}
 use Rattle.definition.proofs.Lists.{each-at, each-join, each-map, each-so, each-take, each-drop}
-use Rattle.definition.proofs.Setups.{Side, Finite, Count, Passed, accepted-passed}
+use Rattle.definition.proofs.Setups.{Side, Finite, Count, Passed}
 
 -- ---- floats
 

@@ -3,7 +3,7 @@
 use Prim.Native.Nat.{ℕ, _+_, _-_, _*_}
 use mathlib.Core.Bool.{cond}
 use mathlib.Core.List.{List, [], _∷_, _++_, reverse}
-use mathlib.Core.Option.{Option, none, some}
+use mathlib.Core.Option.{none, some}
 use lib.Dec.{ltb}
 use lib.ListN.{length, take, getD}
 use Rattle.definition.specs.Problem.{Setup, Check, refuse, when, _then_, validate, dimension}

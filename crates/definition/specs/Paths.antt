@@ -1,7 +1,6 @@
 -- The path of the Cauchy point followed segment by segment, with no bound on their number: an end stays.
 use Prim.Native.Nat.{ℕ, zero, suc}
 use mathlib.Core.List.{List}
-use mathlib.Core.Option.{Option}
 use lib.Ieee.{Float}
 use Rattle.definition.specs.Problem.{Bounds}
 use Rattle.definition.specs.Compact.{Compact}

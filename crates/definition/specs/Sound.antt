@@ -1,5 +1,5 @@
 -- What is true of every fit that is held, and which refusal empties a history: the words of the theorems on histories.
-use Prim.Native.Nat.{ℕ, _≤_}
+use Prim.Native.Nat.{_≤_}
 use mathlib.Core.Bool.{Bool, true, false}
 use mathlib.Core.List.{List}
 use lib.ListN.{length}
