@@ -51,10 +51,18 @@ entry-long Reply.goOn = omega arith
 entry-long Reply.stop = omega arith
 entry-long Reply.failure = omega arith
 
-replies-few : (rs : List Reply) → length rs ≤ length (logWords rs)
+pub log-length : (r : Reply) (rs : List Reply) → length (logWords (r ∷ rs)) ≡ length (logWords rs) + length (entryWords r)
 unfolding logWords
+log-length r rs = simp length-append (omega arith)
+
+-- the newest entry stands last
+log-last : (r : Reply) (rs : List Reply) (rest : List ℕ) → logWords (r ∷ rs) ++ rest ≡ logWords rs ++ (entryWords r ++ rest)
+unfolding logWords
+log-last r rs rest = append-assoc (logWords rs) (entryWords r) rest
+
+replies-few : (rs : List Reply) → length rs ≤ length (logWords rs)
 replies-few [] = omega arith
-replies-few (r ∷ rs) = omega (arith, replies-few rs, entry-long r, length-append (logWords rs) (entryWords r))
+replies-few (r ∷ rs) = omega (arith, replies-few rs, entry-long r, log-length r rs)
 
 module _ (s : Setup) (room : ℕ) where
   -- the log's entries read, with `rest` behind them and as many steps left
@@ -63,10 +71,10 @@ module _ (s : Setup) (room : ℕ) where
   unfolding logWords run readEntries
   log-read [] left rest d h = rw zero-add
   log-read (r ∷ rs) left rest d h =
-      let fits : length (logWords rs) + length (entryWords r) ≤ room = omega (arith, length-append (logWords rs) (entryWords r)) in
+      let fits : length (logWords rs) + length (entryWords r) ≤ room = omega (arith, log-length r rs) in
       let more : suc (length rs) + left ≡ length rs + suc left = omega arith in
-      rw (more, append-assoc (logWords rs) (entryWords r) rest)
-      (log-read rs (suc left) (entryWords r ++ rest) (d .1) (omega arith) ∙ ap (readEntries left room) (entry-read room rs (run s rs) rest r (d .0) fits))
+      rw (more, log-last r rs rest)
+      (log-read rs (suc left) (entryWords r ++ rest) (d .1) (omega (arith, log-length r rs)) ∙ ap (readEntries left room) (entry-read room rs (run s rs) rest r (d .0) fits))
 
   read-kept : (left : ℕ) (rs : List Reply) → readEntries left room (Entries.kept rs) ≡ Entries.kept rs
   unfolding readEntries
@@ -136,7 +144,7 @@ module _ (s : Setup) (room : ℕ) (all : List ℕ) where
 
   reads-due : (k : ℕ) (ws : List ℕ) (rs : List Reply) (m : Machine) (r : Reply) → Spells k ws (some r) → Read s room all (k ∷ ws) rs → m ≡ run s rs
       → (c : Check) → checkDue m r ≡ c → Reads (admitDue room ws rs m r c)
-  unfolding logWords run
+  unfolding run
   reads-due k ws rs m r spelled h e (some c) due = tt
   reads-due k ws rs m r spelled h e none due = go (ltb room (length (logWords rs) + length (entryWords r))) refl
     where
@@ -146,8 +154,8 @@ module _ (s : Setup) (room : ℕ) (all : List ℕ) where
       go false f = (
         record {
           due = (ap (λ (n : Machine). checkDue n r) (sym e) ∙ due, h .due);
-          spelled = append-assoc (logWords rs) (entryWords r) _ ∙ ap (λ (l : List ℕ). logWords rs ++ l) spelled ∙ h .spelled;
-          fits = omega (arith, ltb-false room (length (logWords rs) + length (entryWords r)) f, length-append (logWords rs) (entryWords r));
+          spelled = log-last r rs _ ∙ ap (λ (l : List ℕ). logWords rs ++ l) spelled ∙ h .spelled;
+          fits = omega (arith, ltb-false room (length (logWords rs) + length (entryWords r)) f, log-length r rs);
         },
         ap (λ (n : Machine). answer n r) e,
       )

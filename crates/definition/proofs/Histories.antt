@@ -7,7 +7,7 @@ use mathlib.Core.Bool.{cond}
 use mathlib.Core.List.{List, [], _∷_, _++_, map, reverse, reverseAux, reverseAux-eq, reverse-reverse}
 use mathlib.Core.Option.{none, some}
 use lib.Dec.{ltb}
-use lib.ListN.{length, take, drop, length-append, length-reverse, length-reverseAux, take-append-drop}
+use lib.ListN.{length, take, drop, length-reverse, length-reverseAux, take-append-drop}
 use lib.Seq.{drop-at}
 use borrow.Author.Tests.{ltb-false, le-ltb}
 use Rattle.definition.specs.Problem.{Setup, Refusal, Check, refuse, when, _then_, validate, areaNeeded}
@@ -21,6 +21,7 @@ use Rattle.definition.specs.Values.{Each, SetupFloats, ReplyWords, Bring
 use Rattle.definition.specs.Sound.{Sound, atEntry, refusedAtEntry}
 use Rattle.definition.proofs.Lists.{each-drop, each-of}
 use Rattle.definition.proofs.Setups.{both-passed, test-failed}
+use Rattle.definition.proofs.Entries.{log-length}
 use Rattle.definition.proofs.RoundTrip.{saved-reads-back, accepted-sound, accepted-floats, accepted-words}
 
 -- ---- what holds of the fit in the history after every list of calls
@@ -73,17 +74,15 @@ due-struck s (suc j) [] d = d
 due-struck s (suc j) (r ∷ rs) d = due-struck s j rs (d .1)
 
 log-struck : (j : ℕ) (rs : List Reply) → length (logWords (drop j rs)) ≤ length (logWords rs)
-unfolding logWords
 log-struck zero rs = omega arith
 log-struck (suc j) [] = omega arith
-log-struck (suc j) (r ∷ rs) = omega (arith, log-struck j rs, length-append (logWords rs) (entryWords r))
+log-struck (suc j) (r ∷ rs) = omega (arith, log-struck j rs, log-length r rs)
 
 reply-fits : (z : Lengths) (s : Setup) (rs : List Reply) (r : Reply) → checkReply z s rs r ≡ none → (checkDue (run s rs) r ≡ none) × (length (logWords (r ∷ rs)) ≤ z .log)
-unfolding logWords
 reply-fits z s rs r e =
     let p = both-passed (checkDue (run s rs) r) (when (ltb (z .log) (length (logWords rs) + length (entryWords r))) (refuse 12 0 0)) e in
     let fits = ltb-false (z .log) _ (test-failed (ltb (z .log) (length (logWords rs) + length (entryWords r))) _ (p .1)) in
-    (p .0, omega (arith, fits, length-append (logWords rs) (entryWords r)))
+    (p .0, omega (arith, fits, log-length r rs))
 
 sound-kept : (z : Lengths) → Kept z (λ c. Unit {0}) (Sound z)
 unfolding logWords
@@ -216,8 +215,7 @@ again-step z h c k cs g step answer next = record {
 
 module _ (z : Lengths) (s : Setup) where
   reply-again : (rs : List Reply) (q : Reply) → Due s (q ∷ rs) → Room z s (q ∷ rs) → checkReply z s rs q ≡ none
-  unfolding logWords
-  reply-again rs q d room = rw (d .0, le-ltb (z .log) (length (logWords rs) + length (entryWords q)) (omega (arith, length-append (logWords rs) (entryWords q))))
+  reply-again rs q d room = rw (d .0, le-ltb (z .log) (length (logWords rs) + length (entryWords q)) (omega (arith, log-length q rs)))
 
   all-again : (qs rs : List Reply) → Due s (reverseAux qs rs) → Room z s (reverseAux qs rs) → Again z (History.fit s rs) (map Call.reply qs) (History.fit s (reverseAux qs rs))
   unfolding historyAfter historyAnswers

@@ -5,10 +5,9 @@ use mathlib.Core.Path.{_≡_, sym, ap, _∙_, subst}
 use mathlib.Core.Logic.{_≢_}
 use mathlib.Core.Bool.{false}
 use mathlib.Core.List.{List, [], _∷_, _++_}
-use lib.Dec.{eqb}
 use lib.ListN.{length, getD, set, length-set}
 use borrow.Author.Tests.{ne-eqb}
-use Rattle.definition.specs.Record.{Lengths, Reading, Sums, wordSize, added, sumsFrom, sums, trailer, bytes, plainRefusal, checkWords, readWords, readRecord}
+use Rattle.definition.specs.Record.{Lengths, Reading, Sums, wordSize, added, sumsFrom, sums, trailer, bytes, plainRefusal, sameSums, checkWords, readWords, readRecord}
 use Rattle.definition.specs.Values.{Words}
 use Rattle.definition.proofs.Lists.{each-at, each-set}
 use Rattle.definition.proofs.Bytes.{trailing, read-framed}
@@ -54,16 +53,21 @@ plain-changes ws i w h k l n e =
     same : (x y w v : ℕ) → w < wordSize → v < wordSize → x + v ≡ y + w → (0 + x) % wordSize ≡ (0 + y) % wordSize → w ≡ v
     same x y w v l d c e = omega arith
 
+other-sums : (ws : List ℕ) (p q : ℕ) → sums ws .plain ≢ p → sameSums ws p q ≡ false
+other-sums ws p q n = simp (ne-eqb (sums ws .plain) p n)
+
+sums-refused : (z : Lengths) (ws : List ℕ) (p q : ℕ) → sameSums ws p q ≡ false → readWords z ws p q ≡ Reading.refused (plainRefusal 18)
+unfolding readWords checkWords
+sums-refused z ws p q e = rw e
+
 -- words under a trailer of other words' sums
 pub one-changed-word : (z : Lengths) (ahead ws : List ℕ) (i w : ℕ) → Words ws → length ws < wordSize → i < length ws → w < wordSize → w ≢ getD ws i 0
     → readRecord z (ahead ++ bytes (set ws i w ++ trailer ws)) ≡ Reading.refused (plainRefusal 18)
-unfolding readWords checkWords
 one-changed-word z ahead ws i w h size k l n =
     let p = sums ws .plain in
     let q = sums ws .running in
     let same : length ws ≡ length (set ws i w) = sym (length-set ws i w) in
     let t = trailer-words ws size in
-    let test : eqb (sums (set ws i w) .plain) p ≡ false = ne-eqb (sums (set ws i w) .plain) p (plain-changes ws i w h k l n) in
     ap (λ (c : ℕ). readRecord z (ahead ++ bytes (set ws i w ++ trailing p q c))) same
     ∙ read-framed z ahead (set ws i w) p q (each-set _ ws i w h l) (subst (λ (c : ℕ). Words (trailing p q c)) same t)
-    ∙ rw test
+    ∙ sums-refused z (set ws i w) p q (other-sums (set ws i w) p q (plain-changes ws i w h k l n))

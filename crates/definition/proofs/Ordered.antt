@@ -17,7 +17,7 @@ use Rattle.definition.specs.Machine.{Reply, Machine, question, report}
 use Rattle.definition.specs.Driver.{answer, begin, run}
 use Rattle.definition.specs.Log.{entryWords, logWords}
 use Rattle.definition.specs.Record.{Lengths, Reading, setupWords, trailer, recordWords, recordBytes, readRecord}
-use Rattle.definition.specs.History.{Call, Answer, History, checkReply, entryAt, refusal, left, accepted, restored, restoredAnswer, leftUnless, answerUnless, historyStep, historyAnswer, historyAfter, historyAnswers}
+use Rattle.definition.specs.History.{Call, Answer, History, entryAt, refusal, left, accepted, restored, restoredAnswer, leftUnless, answerUnless, stepOther, answerOther, historyStep, historyAnswer, historyAfter, historyAnswers}
 use Rattle.definition.specs.Ordered.{Ordered, runFrom, runInOrder, logInOrder, recordInOrder, entryInOrder, Outcome, checked, restoring, outcome, orderedAfter, orderedAnswers, inOrder}
 
 -- ---- replies turned round
@@ -80,15 +80,22 @@ record Same (o : Outcome) (h : History) (a : Answer) : Type 0 where
   history : o .history ≡ inOrder h
   answer : o .answer ≡ a
 
-same-checked : (h : History) (c : Call) (o : Check) (l : Ordered) (a : Answer) → l ≡ inOrder (left h c) → a ≡ accepted h c
-    → Same (checked o (inOrder h) l a) (leftUnless o h c) (answerUnless o h c)
-same-checked h c none l a f g = record { history = f; answer = g }
-same-checked h c (some r) l a f g = record { history = refl; answer = refl }
+-- a call that changes the history where it is accepted
+same-changed : (z : Lengths) (h : History) (c : Call) (l : Ordered) → l ≡ inOrder (left h c)
+    → Same (checked (refusal z h c) (inOrder h) l (accepted h c)) (stepOther z h c) (answerOther z h c)
+same-changed z h c l e = go (refusal z h c)
+  where
+    go : (o : Check) → Same (checked o (inOrder h) l (accepted h c)) (leftUnless o h c) (answerUnless o h c)
+    go none = record { history = e; answer = refl }
+    go (some r) = record { history = refl; answer = refl }
 
--- a call that leaves the history whether or not it is refused
-same-asked : (h : History) (c : Call) (o : Check) → Same (checked o (inOrder h) (inOrder h) (accepted h c)) h (answerUnless o h c)
-same-asked h c none = record { history = refl; answer = refl }
-same-asked h c (some r) = record { history = refl; answer = refl }
+-- a call that leaves it in any case
+same-asked : (z : Lengths) (h : History) (c : Call) → Same (checked (refusal z h c) (inOrder h) (inOrder h) (accepted h c)) h (answerOther z h c)
+same-asked z h c = go (refusal z h c)
+  where
+    go : (o : Check) → Same (checked o (inOrder h) (inOrder h) (accepted h c)) h (answerUnless o h c)
+    go none = record { history = refl; answer = refl }
+    go (some r) = record { history = refl; answer = refl }
 
 same-restored : (h : History) (r : Reading) → Same (restoring (inOrder h) r) (restored h r) (restoredAnswer r)
 same-restored h (Reading.accepted s rs) = record { history = refl; answer = refl }
@@ -97,28 +104,24 @@ same-restored h (Reading.refusedAtEntry c) = record { history = refl; answer = r
 
 same-call : (z : Lengths) (h : History) (c : Call) → Same (outcome z (inOrder h) c) (historyStep z h c) (historyAnswer z h c)
 unfolding recordBytes
-same-call z h (Call.start s) = same-checked h (Call.start s) (refusal z h (Call.start s)) (Ordered.fit s []) Answer.done refl refl
+same-call z h (Call.start s) = same-changed z h (Call.start s) (Ordered.fit s []) refl
 same-call z h (Call.restore bs) = same-restored h (readRecord z bs)
-same-call z History.empty (Call.reply r) = record { history = refl; answer = refl }
+same-call z History.empty (Call.reply r) = same-changed z History.empty (Call.reply r) Ordered.empty refl
 same-call z (History.fit s rs) (Call.reply r) =
-    rw (run-is s rs, log-is rs) (same-checked (History.fit s rs) (Call.reply r) (checkReply z s rs r) (Ordered.fit s (reverse rs ++ (r ∷ []))) Answer.done (ap (Ordered.fit s) (sym (reverse-cons r rs))) refl)
-same-call z History.empty (Call.takeBack j) = same-checked History.empty (Call.takeBack j) (refusal z History.empty (Call.takeBack j)) Ordered.empty Answer.done refl refl
+    rw (run-is s rs, log-is rs) (same-changed z (History.fit s rs) (Call.reply r) (Ordered.fit s (reverse rs ++ (r ∷ []))) (ap (Ordered.fit s) (sym (reverse-cons r rs))))
+same-call z History.empty (Call.takeBack j) = same-changed z History.empty (Call.takeBack j) Ordered.empty refl
 same-call z (History.fit s rs) (Call.takeBack j) =
-    rw (length-reverse rs, log-is rs)
-    (same-checked (History.fit s rs) (Call.takeBack j) (refusal z (History.fit s rs) (Call.takeBack j)) (Ordered.fit s (take (length rs - j) (reverse rs))) Answer.done (ap (Ordered.fit s) (struck-is j rs)) refl)
-same-call z History.empty (Call.question room) = record { history = refl; answer = refl }
-same-call z (History.fit s rs) (Call.question room) =
-    rw (run-is s rs) (same-asked (History.fit s rs) (Call.question room) (refusal z (History.fit s rs) (Call.question room)))
-same-call z History.empty (Call.report room) = record { history = refl; answer = refl }
-same-call z (History.fit s rs) (Call.report room) = rw (run-is s rs) (same-asked (History.fit s rs) (Call.report room) (refusal z (History.fit s rs) (Call.report room)))
-same-call z History.empty Call.replies = record { history = refl; answer = refl }
-same-call z (History.fit s rs) Call.replies = record { history = refl; answer = ap Answer.counted (length-reverse rs) }
-same-call z History.empty (Call.entry k room) = record { history = refl; answer = refl }
-same-call z (History.fit s rs) (Call.entry k room) =
-    rw (entry-is rs k, log-is rs) (same-asked (History.fit s rs) (Call.entry k room) (refusal z (History.fit s rs) (Call.entry k room)))
-same-call z History.empty (Call.save room) = record { history = refl; answer = refl }
-same-call z (History.fit s rs) (Call.save room) =
-    rw (record-is s rs, log-is rs) (same-asked (History.fit s rs) (Call.save room) (refusal z (History.fit s rs) (Call.save room)))
+    rw (length-reverse rs, log-is rs) (same-changed z (History.fit s rs) (Call.takeBack j) (Ordered.fit s (take (length rs - j) (reverse rs))) (ap (Ordered.fit s) (struck-is j rs)))
+same-call z History.empty (Call.question room) = same-asked z History.empty (Call.question room)
+same-call z (History.fit s rs) (Call.question room) = rw (run-is s rs) (same-asked z (History.fit s rs) (Call.question room))
+same-call z History.empty (Call.report room) = same-asked z History.empty (Call.report room)
+same-call z (History.fit s rs) (Call.report room) = rw (run-is s rs) (same-asked z (History.fit s rs) (Call.report room))
+same-call z History.empty Call.replies = same-asked z History.empty Call.replies
+same-call z (History.fit s rs) Call.replies = rw (length-reverse rs) (same-asked z (History.fit s rs) Call.replies)
+same-call z History.empty (Call.entry k room) = same-asked z History.empty (Call.entry k room)
+same-call z (History.fit s rs) (Call.entry k room) = rw (entry-is rs k, log-is rs) (same-asked z (History.fit s rs) (Call.entry k room))
+same-call z History.empty (Call.save room) = same-asked z History.empty (Call.save room)
+same-call z (History.fit s rs) (Call.save room) = rw (record-is s rs, log-is rs) (same-asked z (History.fit s rs) (Call.save room))
 
 -- ---- every list of calls
 

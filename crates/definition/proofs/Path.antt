@@ -8,7 +8,7 @@ use mathlib.Core.List.{List, [], _∷_}
 use mathlib.Core.Option.{Option, none, some}
 use lib.Dec.{T, ltb}
 use lib.ListN.{length, getD, List·getD-eq-default}
-use lib.Ieee.{Float, nan, inf, fin, eq, lt, le, sub, add, neg, up, down}
+use lib.Ieee.{Float, nan, inf, fin, eq, lt, le, sub, neg, up, down}
 use lib.Ieee.Scale.{finite}
 use borrow.Author.Tests.{eq-eqb, ltb-true, ltb-false}
 use Rattle.definition.specs.Number.{plus, minus, over, totalLe, zero64, infinity}
@@ -65,7 +65,7 @@ eq-self (fin false m e) h = ap (λ (x : Bool). x && true) (eq-eqb (m * up e * do
 
 -- what is finite lies below the length of the segment that has no end
 below-open : (x p : Float) → T (finite x) → T (finite p) → lt x (minus infinity p) ≡ true
-unfolding lt sub add neg
+unfolding lt sub
 below-open x nan h k = absurd k
 below-open x (inf s) h k = absurd k
 below-open nan (fin t n d) h k = absurd h
@@ -199,7 +199,7 @@ path-ends n b c x g =
     let k = breaks-are n b x g in
     let p = pathStart n b x g in
     let r = ends n b c x g bs n 0 (firstSegment n b c x g) (k .finite) (leads-on n b x bs (k .finite) p c g tt) (omega (arith, k .few)) in
-    r .1 ∙ ap ended (sym (walk-is n b c x g bs n (n + 1) (firstSegment n b c x g) (r .0) (omega arith) (r .1)))
+    r .1 ∙ ap ended (sym (walk-is n b c x g bs n _ (firstSegment n b c x g) (r .0) (omega arith) (r .1)))
 
 -- with any larger bound the Cauchy point is the same
 pub bound-never-met : (n : ℕ) (b : Bounds) (c : Compact) (x g : List Float) (bound : ℕ) → n ≤ bound

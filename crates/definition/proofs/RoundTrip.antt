@@ -1,6 +1,6 @@
 -- A record reads back to the setup and replies that were saved, behind any bytes; what is accepted is sound, and saved again it is the
 -- same record; and a record with one word before its trailer changed is refused. Assumes nothing.
-use Prim.Native.Nat.{ℕ, _+_, _≤_, _<_}
+use Prim.Native.Nat.{ℕ, _+_, _*_, _≤_, _<_}
 use native.Mathlib.Omega.{arith}
 use mathlib.Core.Path.{_≡_, refl, sym, ap, ap₂, _∙_, subst}
 use mathlib.Core.Logic.{_≢_}
@@ -19,11 +19,11 @@ use Rattle.definition.specs.Replies.{Accepted}
 use Rattle.definition.specs.Values.{Bytes, Words, SetupFloats, ReplyWords}
 use Rattle.definition.specs.Sound.{Sound}
 use Rattle.definition.proofs.Lists.{each-join, each-split}
-use Rattle.definition.proofs.Bytes.{trailing, read-framed, Framed, accepted-framed}
+use Rattle.definition.proofs.Bytes.{bytes-length, trailing, read-framed, Framed, accepted-framed}
 use Rattle.definition.proofs.OneWord.{trailer-words, one-changed-word}
 use Rattle.definition.proofs.Setups.{both-passed, test-failed, accepted-passed}
 use Rattle.definition.proofs.Entries.{Read, log-back, log-sound}
-use Rattle.definition.proofs.SetupWords.{setup-back, shape-small, setup-length, setup-words, setup-read, words-of-setup}
+use Rattle.definition.proofs.SetupWords.{setup-back, shape-small, setup-length, setup-most, setup-words, setup-read, words-of-setup}
 
 -- ---- the log's words are those of the replies
 
@@ -51,7 +51,8 @@ module _ (z : Lengths) (s : Setup) (rs : List Reply) (ok : Sound z s rs) (f : Se
       let long : ltb (length saved) (setupLength (getD saved 0 0)) ≡ false
       = le-ltb (length saved) (setupLength (getD saved 0 0)) (omega (arith, setup-length s p, length-append (setupWords s) (logWords rs))) in
       let area : ltb (z .area) (areaNeeded s) ≡ false = le-ltb (z .area) (areaNeeded s) (ok .area) in
-      rw (eq-eqb (sums saved .plain) (sums saved .plain) refl, eq-eqb (sums saved .running) (sums saved .running) refl, long, lt-leb 262144 (getD saved 0 0) (shape-small s p), same, ok .accepted, area)
+      let spare : spareBits (getD saved 0 0) ≡ false = lt-leb _ (getD saved 0 0) (omega (arith, shape-small s p)) in
+      simp (eq-eqb (sums saved .plain) (sums saved .plain) refl, eq-eqb (sums saved .running) (sums saved .running) refl, long, spare, same, ok .accepted, area)
 
   behind-setup : drop (setupLength (getD saved 0 0)) saved ≡ logWords rs
   unfolding setupWords
@@ -65,6 +66,14 @@ module _ (z : Lengths) (s : Setup) (rs : List Reply) (ok : Sound z s rs) (f : Se
 record-length : (s : Setup) (rs : List Reply) → length (recordWords s rs) ≡ length (setupWords s ++ logWords rs) + 4
 unfolding recordWords
 record-length s rs = length-append (setupWords s ++ logWords rs) (trailer (setupWords s ++ logWords rs))
+
+-- what a record takes: 8 bytes a word, and besides the log's words at most 203
+pub record-bytes : (s : Setup) (rs : List Reply) → length (recordBytes s rs) ≡ 8 * length (recordWords s rs)
+unfolding recordBytes
+record-bytes s rs = bytes-length (recordWords s rs)
+
+pub record-most : (s : Setup) (rs : List Reply) → Accepted s → length (recordWords s rs) ≤ length (logWords rs) + 203
+record-most s rs a = omega (arith, record-length s rs, length-append (setupWords s) (logWords rs), setup-most s (accepted-passed s a))
 
 fit-words : (s : Setup) (rs : List Reply) → Accepted s → SetupFloats s → ReplyWords rs → Words (setupWords s ++ logWords rs)
 fit-words s rs a f w = each-join _ (setupWords s) (logWords rs) (setup-words s (accepted-passed s a) f) (log-words rs w)
@@ -138,7 +147,7 @@ words-accepting z ws p q s rs e =
       plain = eqb-true (sums ws .plain) p (sum .0);
       running = eqb-true (sums ws .running) q (sum .1);
       long = ltb-false (length ws) (setupLength w) (form .0);
-      small = leb-false 262144 w (form .1);
+      small = omega (arith, leb-false _ w (form .1));
       accepted = f .0;
       area = ltb-false (z .area) (areaNeeded t) (test-failed (ltb (z .area) (areaNeeded t)) _ (f .1));
       setup = k .0;
@@ -166,9 +175,9 @@ module _ (z : Lengths) (bs : List ℕ) (s : Setup) (rs : List Reply) (e : readRe
   words-are h =
       let k = reading in
       let ws = found .ws in
-      let size = setupLength (getD ws 0 0) in
-      sym (take-append-drop size ws)
-      ∙ ap₂ _++_ (sym (words-of-setup ws h (k .long) (k .small) (accepted-passed (setupIn ws) (k .accepted))) ∙ ap setupWords (k .setup)) (sym (log .spelled) ∙ append-nil (logWords rs))
+      let setup = words-of-setup ws h (k .long) (k .small) (accepted-passed (setupIn ws) (k .accepted)) in
+      sym (take-append-drop (setupLength (getD ws 0 0)) ws)
+      ∙ ap₂ _++_ (sym setup ∙ ap setupWords (k .setup)) (sym (log .spelled) ∙ append-nil (logWords rs))
 
   pub accepted-words : Bytes bs → ReplyWords rs
   accepted-words b =

@@ -207,6 +207,15 @@ module _ (s : Setup) (p : Passed s) where
       let e = bounds-long (s .bounds) (shapeWord s) (dimension s) (h .n-in) (h .b-in) (p .bounds) in
       omega (arith, e, length-append (map toWord (s .x0)) (boundWords (s .bounds)), length-map (s .x0) toWord)
 
+  pub setup-most : length (setupWords s) ≤ 199
+  setup-most =
+      let h = shape-is s p in
+      omega (arith, sym setup-length, three-most (hasBox (shapeWord s)) (nIn (shapeWord s)), h .n-in, p .size .1)
+    where
+      three-most : (t : Bool) (n : ℕ) → cond t (3 * n) n ≤ 3 * n
+      three-most true n = omega arith
+      three-most false n = omega arith
+
   pub setup-words : SetupFloats s → Words (setupWords s)
   unfolding setupWords
   setup-words f = (
@@ -301,7 +310,11 @@ module _ (ws : List ℕ) (h : Words ws) where
       = rw (size, word-of-count (maxcorIn w), box-flag (w / 65536 % 2) (boxAt ws n) (omega arith), scheme-flag (w / 131072 % 2) (omega arith)) (shape-whole w small) in
       let at : (k : ℕ) → k < 7 → getD ws k 0 < wordSize = λ k l. each-at (λ v. v < wordSize) ws k 0 h (omega arith) in
       let rest = point-words n (length (floatsAt ws 7 n)) (hasBox w) (each-so Finite Plain (floatsAt ws 7 n) finite-plain (p .x0)) (p .bounds) in
-      rw (shape, word-of-count (getD ws 1 0), word-of-count (getD ws 2 0), word-of-option (getD ws 3 0) (at 3 (omega arith)) (p .tol), word-of-option (getD ws 4 0) (at 4 (omega arith)) (p .ftol), word-of-option (getD ws 5 0) (at 5 (omega arith)) (p .gtol), word-of-option (getD ws 6 0) (at 6 (omega arith)) (p .eps), rest)
+      let tol = word-of-option (getD ws 3 0) (at 3 (omega arith)) (p .tol) in
+      let ftol = word-of-option (getD ws 4 0) (at 4 (omega arith)) (p .ftol) in
+      let gtol = word-of-option (getD ws 5 0) (at 5 (omega arith)) (p .gtol) in
+      let eps = word-of-option (getD ws 6 0) (at 6 (omega arith)) (p .eps) in
+      rw (shape, word-of-count (getD ws 1 0), word-of-count (getD ws 2 0), tol, ftol, gtol, eps, rest)
       (sym (take-add 7 (cond (hasBox w) (3 * n) n) ws ∙ ap (λ (l : List ℕ). l ++ take (cond (hasBox w) (3 * n) n) (drop 7 ws)) (take-tab 7 ws (omega arith))))
     where
       at-least : (t : Bool) (n m : ℕ) → 7 + cond t (3 * n) n ≤ m → 7 + n ≤ m
