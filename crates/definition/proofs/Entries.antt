@@ -1,5 +1,6 @@
--- A log read: due replies come back from their words, and whatever is read was due and spells those words. Assumes nothing.
-use Prim.Native.Nat.{ℕ, zero, suc, _+_, _-_, _≤_}
+-- A log read: due replies come back from their words, whatever is read was due and spells those words, and all is read.
+-- Assumes nothing.
+use Prim.Native.Nat.{ℕ, zero, suc, _+_, _-_, _≤_, _<_}
 use native.Mathlib.Nat.{zero-add}
 use native.Mathlib.Omega.{arith}
 use mathlib.Core.Path.{_≡_, refl, sym, ap, ap₂, _∙_, subst}
@@ -7,7 +8,7 @@ use mathlib.Core.Bool.{Bool, true, false, not, cond}
 use mathlib.Core.List.{List, [], _∷_, _++_, append-assoc, append-nil}
 use mathlib.Core.Option.{Option, none, some}
 use lib.Dec.{eqb, ltb}
-use lib.ListN.{length, take, drop, length-append, take-append-drop}
+use lib.ListN.{length, take, drop, length-append, length-drop, take-append-drop}
 use lib.Seq.{take-at, drop-at, length-take-le}
 use borrow.Author.Tests.{eqb-true, ltb-false, le-ltb, not-false}
 use Rattle.definition.specs.Problem.{Setup, Check, refuse, when}
@@ -183,3 +184,45 @@ unfolding logWords run
 log-sound s room ws rs e =
     subst (Reads s room ws) e
     (reads-entries s room ws (length ws + 1) (Entries.going ws [] (begin s)) (record { due = tt; spelled = refl; fits = omega arith }, refl))
+
+-- ---- the bound on the number of entries is never what ends the reading
+
+-- an entry read leaves fewer words
+abbrev Fewer : ℕ → Entries → Type 0
+Fewer most (Entries.kept rs) = Unit {0}
+Fewer most (Entries.refusedAt c) = Unit {0}
+Fewer most (Entries.going ws rs m) = length ws < most
+
+fewer-due : (room : ℕ) (ws : List ℕ) (rs : List Reply) (m : Machine) (r : Reply) (c : Check) → Fewer (suc (length ws)) (admitDue room ws rs m r c)
+fewer-due room ws rs m r (some c) = tt
+fewer-due room ws rs m r none = go (ltb room (length (logWords rs) + length (entryWords r)))
+  where
+    go : (t : Bool) → Fewer (suc (length ws)) (cond t (Entries.refusedAt 12) (Entries.going (drop (length (entryWords r) - 1) ws) (r ∷ rs) (answer m r)))
+    go true = tt
+    go false = omega (arith, length-drop (length (entryWords r) - 1) ws)
+
+fewer-next : (room : ℕ) (ws : List ℕ) (rs : List Reply) (m : Machine) → Fewer (length ws) (nextEntry room ws rs m)
+fewer-next room [] rs m = tt
+fewer-next room (k ∷ ws) rs m = go (entryOf (m .terms .n) k ws)
+  where
+    go : (o : Option Reply) → Fewer (suc (length ws)) (admit room ws rs m o)
+    go none = tt
+    go (some r) = fewer-due room ws rs m r (checkDue m r)
+
+same-reading : (a b most room : ℕ) (e : Entries) → Fewer most e → most ≤ a → most ≤ b → readEntries a room e ≡ readEntries b room e
+unfolding readEntries
+same-reading zero zero most room e h k l = refl
+same-reading zero (suc b) most room (Entries.kept rs) h k l = refl
+same-reading zero (suc b) most room (Entries.refusedAt c) h k l = refl
+same-reading zero (suc b) most room (Entries.going ws rs m) h k l = absurd (omega arith)
+same-reading (suc a) zero most room (Entries.kept rs) h k l = refl
+same-reading (suc a) zero most room (Entries.refusedAt c) h k l = refl
+same-reading (suc a) zero most room (Entries.going ws rs m) h k l = absurd (omega arith)
+same-reading (suc a) (suc b) most room (Entries.kept rs) h k l = refl
+same-reading (suc a) (suc b) most room (Entries.refusedAt c) h k l = refl
+same-reading (suc a) (suc b) most room (Entries.going ws rs m) h k l =
+    same-reading a b (length ws) room (nextEntry room ws rs m) (fewer-next room ws rs m) (omega arith) (omega arith)
+
+pub entries-all-read : (s : Setup) (room : ℕ) (ws : List ℕ) (bound : ℕ) → length ws < bound
+    → readEntries bound room (Entries.going ws [] (begin s)) ≡ entriesOf s room ws
+entries-all-read s room ws bound h = same-reading bound _ (length ws + 1) room (Entries.going ws [] (begin s)) (omega arith) (omega arith) (omega arith)

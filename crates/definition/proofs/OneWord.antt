@@ -10,7 +10,7 @@ use borrow.Author.Tests.{ne-eqb}
 use Rattle.definition.specs.Record.{Lengths, Reading, Sums, wordSize, added, sumsFrom, sums, trailer, bytes, plainRefusal, sameSums, checkWords, readWords, readRecord}
 use Rattle.definition.specs.Values.{Words}
 use Rattle.definition.proofs.Lists.{each-at, each-set}
-use Rattle.definition.proofs.Bytes.{trailing, read-framed}
+use Rattle.definition.proofs.Frames.{trailing, read-framed}
 
 total : List ℕ → ℕ
 total [] = 0

@@ -19,11 +19,13 @@ use Rattle.definition.specs.Replies.{Accepted}
 use Rattle.definition.specs.Values.{Bytes, Words, SetupFloats, ReplyWords}
 use Rattle.definition.specs.Sound.{Sound}
 use Rattle.definition.proofs.Lists.{each-join, each-split}
-use Rattle.definition.proofs.Bytes.{bytes-length, trailing, read-framed, Framed, accepted-framed}
+use Rattle.definition.proofs.Bytes.{bytes-length}
+use Rattle.definition.proofs.Frames.{trailing, read-framed, Framed, accepted-framed}
 use Rattle.definition.proofs.OneWord.{trailer-words, one-changed-word}
 use Rattle.definition.proofs.Setups.{both-passed, test-failed, accepted-passed}
 use Rattle.definition.proofs.Entries.{Read, log-back, log-sound}
-use Rattle.definition.proofs.SetupWords.{setup-back, shape-small, setup-length, setup-most, setup-words, setup-read, words-of-setup}
+use Rattle.definition.proofs.SetupWords.{setup-back, shape-small, setup-length, setup-most, setup-words}
+use Rattle.definition.proofs.SetupRead.{setup-read, words-of-setup}
 
 -- ---- the log's words are those of the replies
 
