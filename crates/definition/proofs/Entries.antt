@@ -42,15 +42,49 @@ module _ (room : ℕ) (rs : List Reply) (m : Machine) (rest : List ℕ) where
   entry-read Reply.stop d f = admitted Reply.stop rest d f refl
   entry-read Reply.failure d f = admitted Reply.failure rest d f refl
 
--- ---- the log, from its words
+-- ---- the bound on the number of entries is never what ends the reading
 
-entry-long : (r : Reply) → 1 ≤ length (entryWords r)
-entry-long (Reply.value v) = omega arith
-entry-long (Reply.gradient ws) = omega arith
-entry-long Reply.notSupplied = omega arith
-entry-long Reply.goOn = omega arith
-entry-long Reply.stop = omega arith
-entry-long Reply.failure = omega arith
+-- an entry read leaves fewer words
+abbrev Fewer : ℕ → Entries → Type 0
+Fewer most (Entries.kept rs) = Unit {0}
+Fewer most (Entries.refusedAt c) = Unit {0}
+Fewer most (Entries.going ws rs m) = length ws < most
+
+fewer-due : (room : ℕ) (ws : List ℕ) (rs : List Reply) (m : Machine) (r : Reply) (c : Check) → Fewer (suc (length ws)) (admitDue room ws rs m r c)
+fewer-due room ws rs m r (some c) = tt
+fewer-due room ws rs m r none = go (ltb room (length (logWords rs) + length (entryWords r)))
+  where
+    go : (t : Bool) → Fewer (suc (length ws)) (cond t (Entries.refusedAt 12) (Entries.going (drop (length (entryWords r) - 1) ws) (r ∷ rs) (answer m r)))
+    go true = tt
+    go false = omega (arith, length-drop (length (entryWords r) - 1) ws)
+
+fewer-next : (room : ℕ) (ws : List ℕ) (rs : List Reply) (m : Machine) → Fewer (length ws) (nextEntry room ws rs m)
+fewer-next room [] rs m = tt
+fewer-next room (k ∷ ws) rs m = go (entryOf (m .terms .n) k ws)
+  where
+    go : (o : Option Reply) → Fewer (suc (length ws)) (admit room ws rs m o)
+    go none = tt
+    go (some r) = fewer-due room ws rs m r (checkDue m r)
+
+same-reading : (a b most room : ℕ) (e : Entries) → Fewer most e → most ≤ a → most ≤ b → readEntries a room e ≡ readEntries b room e
+unfolding readEntries
+same-reading zero zero most room e h k l = refl
+same-reading zero (suc b) most room (Entries.kept rs) h k l = refl
+same-reading zero (suc b) most room (Entries.refusedAt c) h k l = refl
+same-reading zero (suc b) most room (Entries.going ws rs m) h k l = absurd (omega arith)
+same-reading (suc a) zero most room (Entries.kept rs) h k l = refl
+same-reading (suc a) zero most room (Entries.refusedAt c) h k l = refl
+same-reading (suc a) zero most room (Entries.going ws rs m) h k l = absurd (omega arith)
+same-reading (suc a) (suc b) most room (Entries.kept rs) h k l = refl
+same-reading (suc a) (suc b) most room (Entries.refusedAt c) h k l = refl
+same-reading (suc a) (suc b) most room (Entries.going ws rs m) h k l =
+    same-reading a b (length ws) room (nextEntry room ws rs m) (fewer-next room ws rs m) (omega arith) (omega arith)
+
+pub entries-all-read : (s : Setup) (room : ℕ) (ws : List ℕ) (bound : ℕ) → length ws < bound
+    → readEntries bound room (Entries.going ws [] (begin s)) ≡ entriesOf s room ws
+entries-all-read s room ws bound h = same-reading bound _ (length ws + 1) room (Entries.going ws [] (begin s)) (omega arith) (omega arith) (omega arith)
+
+-- ---- the log, from its words
 
 pub log-length : (r : Reply) (rs : List Reply) → length (logWords (r ∷ rs)) ≡ length (logWords rs) + length (entryWords r)
 unfolding logWords
@@ -60,10 +94,6 @@ log-length r rs = simp length-append (omega arith)
 log-last : (r : Reply) (rs : List Reply) (rest : List ℕ) → logWords (r ∷ rs) ++ rest ≡ logWords rs ++ (entryWords r ++ rest)
 unfolding logWords
 log-last r rs rest = append-assoc (logWords rs) (entryWords r) rest
-
-replies-few : (rs : List Reply) → length rs ≤ length (logWords rs)
-replies-few [] = omega arith
-replies-few (r ∷ rs) = omega (arith, replies-few rs, entry-long r, log-length r rs)
 
 module _ (s : Setup) (room : ℕ) where
   -- the log's entries read, with `rest` behind them and as many steps left
@@ -85,9 +115,9 @@ module _ (s : Setup) (room : ℕ) where
   pub log-back : (rs : List Reply) → Due s rs → length (logWords rs) ≤ room → entriesOf s room (logWords rs) ≡ Entries.kept rs
   unfolding readEntries
   log-back rs d h =
-      let left = length (logWords rs) - length rs in
-      let steps : length (logWords rs) + 1 ≡ length rs + suc left = omega (arith, replies-few rs) in
-      ap₂ (λ (k : ℕ) (ws : List ℕ). readEntries k room (Entries.going ws [] (begin s))) steps (sym (append-nil (logWords rs)))
+      let left = length (logWords rs) in
+      sym (entries-all-read s room (logWords rs) (length rs + suc left) (omega arith))
+      ∙ ap (λ (ws : List ℕ). readEntries (length rs + suc left) room (Entries.going ws [] (begin s))) (sym (append-nil (logWords rs)))
       ∙ log-read rs (suc left) [] d h
       ∙ read-kept left rs
 
@@ -183,46 +213,4 @@ pub log-sound : (s : Setup) (room : ℕ) (ws : List ℕ) (rs : List Reply) → e
 unfolding logWords run
 log-sound s room ws rs e =
     subst (Reads s room ws) e
-    (reads-entries s room ws (length ws + 1) (Entries.going ws [] (begin s)) (record { due = tt; spelled = refl; fits = omega arith }, refl))
-
--- ---- the bound on the number of entries is never what ends the reading
-
--- an entry read leaves fewer words
-abbrev Fewer : ℕ → Entries → Type 0
-Fewer most (Entries.kept rs) = Unit {0}
-Fewer most (Entries.refusedAt c) = Unit {0}
-Fewer most (Entries.going ws rs m) = length ws < most
-
-fewer-due : (room : ℕ) (ws : List ℕ) (rs : List Reply) (m : Machine) (r : Reply) (c : Check) → Fewer (suc (length ws)) (admitDue room ws rs m r c)
-fewer-due room ws rs m r (some c) = tt
-fewer-due room ws rs m r none = go (ltb room (length (logWords rs) + length (entryWords r)))
-  where
-    go : (t : Bool) → Fewer (suc (length ws)) (cond t (Entries.refusedAt 12) (Entries.going (drop (length (entryWords r) - 1) ws) (r ∷ rs) (answer m r)))
-    go true = tt
-    go false = omega (arith, length-drop (length (entryWords r) - 1) ws)
-
-fewer-next : (room : ℕ) (ws : List ℕ) (rs : List Reply) (m : Machine) → Fewer (length ws) (nextEntry room ws rs m)
-fewer-next room [] rs m = tt
-fewer-next room (k ∷ ws) rs m = go (entryOf (m .terms .n) k ws)
-  where
-    go : (o : Option Reply) → Fewer (suc (length ws)) (admit room ws rs m o)
-    go none = tt
-    go (some r) = fewer-due room ws rs m r (checkDue m r)
-
-same-reading : (a b most room : ℕ) (e : Entries) → Fewer most e → most ≤ a → most ≤ b → readEntries a room e ≡ readEntries b room e
-unfolding readEntries
-same-reading zero zero most room e h k l = refl
-same-reading zero (suc b) most room (Entries.kept rs) h k l = refl
-same-reading zero (suc b) most room (Entries.refusedAt c) h k l = refl
-same-reading zero (suc b) most room (Entries.going ws rs m) h k l = absurd (omega arith)
-same-reading (suc a) zero most room (Entries.kept rs) h k l = refl
-same-reading (suc a) zero most room (Entries.refusedAt c) h k l = refl
-same-reading (suc a) zero most room (Entries.going ws rs m) h k l = absurd (omega arith)
-same-reading (suc a) (suc b) most room (Entries.kept rs) h k l = refl
-same-reading (suc a) (suc b) most room (Entries.refusedAt c) h k l = refl
-same-reading (suc a) (suc b) most room (Entries.going ws rs m) h k l =
-    same-reading a b (length ws) room (nextEntry room ws rs m) (fewer-next room ws rs m) (omega arith) (omega arith)
-
-pub entries-all-read : (s : Setup) (room : ℕ) (ws : List ℕ) (bound : ℕ) → length ws < bound
-    → readEntries bound room (Entries.going ws [] (begin s)) ≡ entriesOf s room ws
-entries-all-read s room ws bound h = same-reading bound _ (length ws + 1) room (Entries.going ws [] (begin s)) (omega arith) (omega arith) (omega arith)
+    (reads-entries s room ws _ (Entries.going ws [] (begin s)) (record { due = tt; spelled = refl; fits = omega arith }, refl))

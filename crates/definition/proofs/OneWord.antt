@@ -1,12 +1,13 @@
 -- A change of exactly one word before the trailer is refused by 18, whatever the words: the plain sum is another one. Assumes nothing.
 use Prim.Native.Nat.{ℕ, zero, suc, _+_, _%_, _<_}
 use native.Mathlib.Omega.{arith}
-use mathlib.Core.Path.{_≡_, sym, ap, _∙_, subst}
+use mathlib.Core.Path.{_≡_, refl, sym, ap, _∙_, subst}
 use mathlib.Core.Logic.{_≢_}
-use mathlib.Core.Bool.{false}
+use mathlib.Core.Bool.{Bool, true, false, _&&_}
 use mathlib.Core.List.{List, [], _∷_, _++_}
+use lib.Dec.{eqb}
 use lib.ListN.{length, getD, set, length-set}
-use borrow.Author.Tests.{ne-eqb}
+use borrow.Author.Tests.{eqb-true}
 use Rattle.definition.specs.Record.{Lengths, Reading, Sums, wordSize, added, sumsFrom, sums, trailer, bytes, plainRefusal, sameSums, checkWords, readWords, readRecord}
 use Rattle.definition.specs.Values.{Words}
 use Rattle.definition.proofs.Lists.{each-at, each-set}
@@ -53,12 +54,23 @@ plain-changes ws i w h k l n e =
     same : (x y w v : ℕ) → w < wordSize → v < wordSize → x + v ≡ y + w → (0 + x) % wordSize ≡ (0 + y) % wordSize → w ≡ v
     same x y w v l d c e = omega arith
 
-other-sums : (ws : List ℕ) (p q : ℕ) → sums ws .plain ≢ p → sameSums ws p q ≡ false
-other-sums ws p q n = simp (ne-eqb (sums ws .plain) p n)
+-- the test of the sums tests both
+pub sums-agree : (ws : List ℕ) (p q : ℕ) → sameSums ws p q ≡ true → (sums ws .plain ≡ p) × (sums ws .running ≡ q)
+sums-agree ws p q e =
+    let both = both-true (eqb (sums ws .plain) p) (eqb (sums ws .running) q) e in
+    (eqb-true (sums ws .plain) p (both .0), eqb-true (sums ws .running) q (both .1))
+  where
+    both-true : (a b : Bool) → (a && b) ≡ true → (a ≡ true) × (b ≡ true)
+    both-true true b e = (refl, e)
+    both-true false b e = (e, cc)
 
-sums-refused : (z : Lengths) (ws : List ℕ) (p q : ℕ) → sameSums ws p q ≡ false → readWords z ws p q ≡ Reading.refused (plainRefusal 18)
+other-sums : (z : Lengths) (ws : List ℕ) (p q : ℕ) → sums ws .plain ≢ p → readWords z ws p q ≡ Reading.refused (plainRefusal 18)
 unfolding readWords checkWords
-sums-refused z ws p q e = rw e
+other-sums z ws p q n = go (sameSums ws p q) refl
+  where
+    go : (t : Bool) → sameSums ws p q ≡ t → readWords z ws p q ≡ Reading.refused (plainRefusal 18)
+    go true e = absurd (n (sums-agree ws p q e .0))
+    go false e = rw e
 
 -- words under a trailer of other words' sums
 pub one-changed-word : (z : Lengths) (ahead ws : List ℕ) (i w : ℕ) → Words ws → length ws < wordSize → i < length ws → w < wordSize → w ≢ getD ws i 0
@@ -70,4 +82,4 @@ one-changed-word z ahead ws i w h size k l n =
     let t = trailer-words ws size in
     ap (λ (c : ℕ). readRecord z (ahead ++ bytes (set ws i w ++ trailing p q c))) same
     ∙ read-framed z ahead (set ws i w) p q (each-set _ ws i w h l) (subst (λ (c : ℕ). Words (trailing p q c)) same t)
-    ∙ sums-refused z (set ws i w) p q (other-sums (set ws i w) p q (plain-changes ws i w h k l n))
+    ∙ other-sums z (set ws i w) p q (plain-changes ws i w h k l n)

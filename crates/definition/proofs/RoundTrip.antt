@@ -4,13 +4,13 @@ use Prim.Native.Nat.{ℕ, _+_, _*_, _≤_, _<_}
 use native.Mathlib.Omega.{arith}
 use mathlib.Core.Path.{_≡_, refl, sym, ap, ap₂, _∙_, subst}
 use mathlib.Core.Logic.{_≢_}
-use mathlib.Core.Bool.{Bool, true, false, not, _&&_, _||_}
+use mathlib.Core.Bool.{Bool, true, false, not, _||_}
 use mathlib.Core.List.{List, [], _∷_, _++_, append-nil}
 use mathlib.Core.Option.{none, some}
-use lib.Dec.{eqb, ltb}
+use lib.Dec.{ltb}
 use lib.ListN.{length, getD, set, drop, length-append, take-append-drop, List·getD-append}
 use lib.Seq.{drop-at, set-append-left}
-use borrow.Author.Tests.{eqb-true, eq-eqb, ltb-false, le-ltb, leb-false, lt-leb}
+use borrow.Author.Tests.{eq-eqb, ltb-false, le-ltb, leb-false, lt-leb, not-false}
 use Rattle.definition.specs.Problem.{Setup, Check, refuse, when, _then_, validate, areaNeeded}
 use Rattle.definition.specs.Machine.{Reply}
 use Rattle.definition.specs.Log.{entryWords, logWords, Entries, entriesOf}
@@ -21,7 +21,7 @@ use Rattle.definition.specs.Sound.{Sound}
 use Rattle.definition.proofs.Lists.{each-join, each-split}
 use Rattle.definition.proofs.Bytes.{bytes-length}
 use Rattle.definition.proofs.Frames.{trailing, read-framed, Framed, accepted-framed}
-use Rattle.definition.proofs.OneWord.{trailer-words, one-changed-word}
+use Rattle.definition.proofs.OneWord.{trailer-words, sums-agree, one-changed-word}
 use Rattle.definition.proofs.Setups.{both-passed, test-failed, accepted-passed}
 use Rattle.definition.proofs.Entries.{Read, log-back, log-sound}
 use Rattle.definition.proofs.SetupWords.{setup-back, shape-small, setup-length, setup-most, setup-words}
@@ -123,11 +123,6 @@ kept-accepted t (Entries.kept qs) s rs h = (cc, cc)
 kept-accepted t (Entries.refusedAt c) s rs h = let z : _≡_ {A = ℕ} 0 1 = cc in absurd (omega arith)
 kept-accepted t (Entries.going ws qs m) s rs h = let z : _≡_ {A = ℕ} 0 1 = cc in absurd (omega arith)
 
-both-true : (a b : Bool) → not (a && b) ≡ false → (a ≡ true) × (b ≡ true)
-both-true true true e = (refl, refl)
-both-true true false e = (refl, sym e)
-both-true false b e = (sym e, cc)
-
 both-false : (a b : Bool) → (a || b) ≡ false → (a ≡ false) × (b ≡ false)
 both-false true b e = (e, cc)
 both-false false b e = (refl, e)
@@ -143,11 +138,11 @@ words-accepting z ws p q s rs e =
     let c = both-passed (when (not (sameSums ws p q)) (refuse 18 0 0)) (when (malformed ws) (refuse 17 0 0) then validate t then checkArea z t) (a .0) in
     let d = both-passed (when (malformed ws) (refuse 17 0 0)) (validate t then checkArea z t) (c .1) in
     let f = both-passed (validate t) (checkArea z t) (d .1) in
-    let sum = both-true (eqb (sums ws .plain) p) (eqb (sums ws .running) q) (test-failed (not (sameSums ws p q)) _ (c .0)) in
+    let sum = sums-agree ws p q (not-false (sameSums ws p q) (test-failed (not (sameSums ws p q)) _ (c .0))) in
     let form = both-false (ltb (length ws) (setupLength w)) (spareBits w) (test-failed (malformed ws) _ (d .0)) in
     record {
-      plain = eqb-true (sums ws .plain) p (sum .0);
-      running = eqb-true (sums ws .running) q (sum .1);
+      plain = sum .0;
+      running = sum .1;
       long = ltb-false (length ws) (setupLength w) (form .0);
       small = omega (arith, leb-false _ w (form .1));
       accepted = f .0;
