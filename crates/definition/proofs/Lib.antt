@@ -10,3 +10,16 @@ pub mod Addition
 pub mod Descent
 pub mod Constants
 pub mod Steps
+pub mod Lists
+pub mod Path
+pub mod Bytes
+pub mod Frames
+pub mod OneWord
+pub mod Setups
+pub mod Entries
+pub mod SetupWords
+pub mod SetupRead
+pub mod RoundTrip
+pub mod Histories
+pub mod TakenBack
+pub mod Ordered

@@ -15,3 +15,7 @@ pub mod History
 pub mod Programs
 pub mod Starred
 pub mod Replies
+pub mod Values
+pub mod Paths
+pub mod Sound
+pub mod Ordered
