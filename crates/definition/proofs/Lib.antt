@@ -1,3 +1,4 @@
 pub mod Opened
 pub mod Starred
 pub mod Example
+pub mod Accepted

@@ -1,0 +1,101 @@
+-- The words of the theorems on a fit, for an accepted setup and replies that were due. Lists of replies stand newest first.
+use Prim.Native.Nat.{ℕ, zero, suc, _+_, _-_, _*_, _≤_, _<_}
+use mathlib.Core.Path.{_≡_}
+use mathlib.Core.Logic.{_⊎_}
+use mathlib.Core.Bool.{Bool, true, false, cond, _&&_}
+use mathlib.Core.List.{List, [], _∷_}
+use mathlib.Core.Option.{Option, none, some}
+use lib.Dec.{T}
+use lib.ListN.{length}
+use lib.Ieee.{Float, binary64, fits}
+use lib.Ieee.Scale.{finite}
+use Rattle.definition.specs.Number.{toFloat}
+use Rattle.definition.specs.Vector.{allFinite}
+use Rattle.definition.specs.Problem.{Setup, Bounds, Terms, dimension, maxcorOf, boundsOf, limitsOf, mostCoordinates, mostPairs, mostBudget}
+use Rattle.definition.specs.Compact.{Pair}
+use Rattle.definition.specs.Counters.{Termination}
+use Rattle.definition.specs.Gradient.{Probes, probesAt}
+use Rattle.definition.specs.Search.{searchTrials}
+use Rattle.definition.specs.Machine.{Reply, State, Side, Phase, Machine}
+use Rattle.definition.specs.Driver.{run, gradientSmall, decreaseSmall}
+use Rattle.definition.specs.Replies.{isValue, isNotice, isFailure, countOf, openOf}
+
+-- ---- counts
+
+-- a reply to a gradient question
+abbrev pub isGradient : Reply → Bool
+isGradient (Reply.value v) = false
+isGradient (Reply.gradient ws) = true
+isGradient Reply.notSupplied = true
+isGradient Reply.goOn = false
+isGradient Reply.stop = false
+isGradient Reply.failure = false
+
+-- the failures that came in place of a reply to a question of this kind
+unfoldable pub failedOf : ℕ → Setup → List Reply → ℕ
+failedOf kind s [] = 0
+failedOf kind s (r ∷ rs) = failedOf kind s rs + cond (isFailure r) (openOf kind (run s rs)) 0
+
+-- nothing is probed of a coordinate
+abbrev pub unprobed : Probes → Bool
+unprobed Probes.neither = true
+unprobed (Probes.both r l) = false
+unprobed (Probes.rightOnly r) = false
+unprobed (Probes.leftOnly l) = false
+
+-- nothing is probed of coordinate i and of those after it, `more` in all
+unfoldable pub unprobedFrom : ℕ → Terms → List Float → ℕ → Bool
+unprobedFrom zero t x i = true
+unprobedFrom (suc more) t x i = unprobed (probesAt t x i) && unprobedFrom more t x (i + 1)
+
+-- the last probe of its coordinate: the right one of two is not
+abbrev pub lastProbe : Probes → Side → Bool
+lastProbe Probes.neither side = true
+lastProbe (Probes.both r l) Side.right = false
+lastProbe (Probes.both r l) Side.left = true
+lastProbe (Probes.rightOnly r) side = true
+lastProbe (Probes.leftOnly l) side = true
+
+-- the open question is the last probe of all
+abbrev pub lastAsked : Machine → Phase → Bool
+lastAsked m (Phase.value w) = false
+lastAsked m (Phase.gradient w) = false
+lastAsked m (Phase.probe w i side) =
+    lastProbe (probesAt (m .terms) (m .trial .x) i) side && unprobedFrom (m .terms .n - (i + 1)) (m .terms) (m .trial .x) (i + 1)
+lastAsked m Phase.notice = false
+lastAsked m (Phase.ended t) = false
+
+-- the reply, given to the machine m, completes a gradient
+abbrev pub completesGradient : Machine → Reply → Bool
+completesGradient m (Reply.value v) = finite (toFloat v) && lastAsked m (m .phase)
+completesGradient m (Reply.gradient ws) = true
+completesGradient m Reply.notSupplied = unprobedFrom (m .terms .n) (m .terms) (m .trial .x) 0
+completesGradient m Reply.goOn = false
+completesGradient m Reply.stop = false
+completesGradient m Reply.failure = false
+
+unfoldable pub gradientsCompleted : Setup → List Reply → ℕ
+gradientsCompleted s [] = 0
+gradientsCompleted s (r ∷ rs) = gradientsCompleted s rs + cond (completesGradient (run s rs) r) 1 0
+
+pub record Counted (s : Setup) (rs : List Reply) : Type 0 where
+  -- every value question is replied to, failed or open; so is every notice
+  pub values : run s rs .counters .nfev ≡ countOf isValue rs + failedOf 1 s rs + openOf 1 (run s rs)
+  pub notices : run s rs .counters .nit ≡ countOf isNotice rs + failedOf 3 s rs + openOf 3 (run s rs)
+  -- a gradient is asked at most once for each value
+  pub gradients : countOf isGradient rs + failedOf 2 s rs + openOf 2 (run s rs) ≤ countOf isValue rs
+  pub completed : run s rs .counters .njev ≡ gradientsCompleted s rs
+  pub drawn : run s rs .counters .drawn ≡ run s rs .counters .nfev
+  pub valueBudget : run s rs .counters .nfev ≤ limitsOf s .maxfev
+  pub noticeBudget : run s rs .counters .nit ≤ limitsOf s .maxiter
+
+-- ---- sizes
+
+-- what an accepted setup keeps to
+pub record InLimits (s : Setup) : Type 0 where
+  pub coordinates : (1 ≤ dimension s) × (dimension s ≤ mostCoordinates)
+  pub pairs : (1 ≤ maxcorOf s) × (maxcorOf s ≤ mostPairs)
+  pub maxiter : (1 ≤ limitsOf s .maxiter) × (limitsOf s .maxiter ≤ mostBudget)
+  pub maxfev : (1 ≤ limitsOf s .maxfev) × (limitsOf s .maxfev ≤ mostBudget)
+  pub lower : length (boundsOf s .lower) ≡ dimension s
+  pub upper : length (boundsOf s .upper) ≡ dimension s
