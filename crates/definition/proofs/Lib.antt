@@ -2,3 +2,4 @@ pub mod Opened
 pub mod Starred
 pub mod Example
 pub mod Accepted
+pub mod Steps

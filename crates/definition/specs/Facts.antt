@@ -65,14 +65,17 @@ lastAsked m (Phase.probe w i side) =
 lastAsked m Phase.notice = false
 lastAsked m (Phase.ended t) = false
 
--- the reply, given to the machine m, completes a gradient
+-- the reply, given to the machine m in its phase, completes a gradient
+abbrev pub completesIn : Machine → Phase → Reply → Bool
+completesIn m p (Reply.value v) = finite (toFloat v) && lastAsked m p
+completesIn m p (Reply.gradient ws) = true
+completesIn m p Reply.notSupplied = unprobedFrom (m .terms .n) (m .terms) (m .trial .x) 0
+completesIn m p Reply.goOn = false
+completesIn m p Reply.stop = false
+completesIn m p Reply.failure = false
+
 abbrev pub completesGradient : Machine → Reply → Bool
-completesGradient m (Reply.value v) = finite (toFloat v) && lastAsked m (m .phase)
-completesGradient m (Reply.gradient ws) = true
-completesGradient m Reply.notSupplied = unprobedFrom (m .terms .n) (m .terms) (m .trial .x) 0
-completesGradient m Reply.goOn = false
-completesGradient m Reply.stop = false
-completesGradient m Reply.failure = false
+completesGradient m r = completesIn m (m .phase) r
 
 unfoldable pub gradientsCompleted : Setup → List Reply → ℕ
 gradientsCompleted s [] = 0
