@@ -3,3 +3,4 @@ pub mod Starred
 pub mod Example
 pub mod Accepted
 pub mod Steps
+pub mod Counts
