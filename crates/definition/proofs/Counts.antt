@@ -15,7 +15,7 @@ use Rattle.definition.specs.Vector.{zeros}
 use Rattle.definition.specs.Problem.{Setup, Terms, Limits, refuse, termsOf, limitsOf}
 use Rattle.definition.specs.Counters.{Termination, Counters, valueLeft, chargeGradient}
 use Rattle.definition.specs.Gradient.{probesAt}
-use Rattle.definition.specs.Machine.{Reply, Place, Phase, Machine, inPhase, ending, kindOf, suits, takes, checkDue, question}
+use Rattle.definition.specs.Machine.{Reply, Place, Phase, Machine, inPhase, ending, kindOf, suits, takes, checkDue, questionIn, question}
 use Rattle.definition.specs.Driver.{withGradient, valued, learn, move, answer, begin, run}
 use Rattle.definition.specs.Replies.{Accepted, Due, isValue, isNotice, isFailure, countOf, openOf}
 use Rattle.definition.specs.Facts.{isGradient, failedOf, unprobedFrom, lastAsked, completesGradient, gradientsCompleted, Counted}
@@ -254,11 +254,6 @@ tally s (r ∷ rs) a d =
 pub counted : (s : Setup) (rs : List Reply) → Accepted s → Due s rs → Counted s rs
 counted s rs a d = tally s rs a d .counted
 
--- outside a notice and the end an iteration is left
-pub iteration-left :
-    (s : Setup) (rs : List Reply) → Accepted s → Due s rs → run s rs .counters .nit + openOf 1 (run s rs) + openOf 2 (run s rs) ≤ run s rs .limits .maxiter
-iteration-left s rs a d = tally s rs a d .room
-
 none-failed : (kind : ℕ) (s : Setup) (rs : List Reply) → countOf isFailure rs ≡ 0 → failedOf kind s rs ≡ 0
 unfolding countOf failedOf
 none-failed kind s [] e = refl
@@ -267,6 +262,37 @@ none-failed kind s (r ∷ rs) e = go (isFailure r) (none-failed kind s rs (omega
     go : (f : Bool) → failedOf kind s rs ≡ 0 → countOf isFailure rs + cond f 1 0 ≡ 0 → failedOf kind s rs + cond f (openOf kind (run s rs)) 0 ≡ 0
     go true h e = absurd (omega arith)
     go false h e = omega arith
+
+-- a question that failed was open
+failed-open : (p : Phase) → suits (kindOf p) Reply.failure ≡ true → opens 1 p + opens 2 p + opens 3 p ≡ 1
+failed-open (Phase.value w) e = refl
+failed-open (Phase.gradient w) e = refl
+failed-open (Phase.probe w i side) e = refl
+failed-open Phase.notice e = refl
+failed-open (Phase.ended t) e = absurd (false≢true e)
+
+-- every reply is of one kind, and every failure in place of one
+replies-of : (s : Setup) (rs : List Reply) → Due s rs
+    → length rs
+    ≡ (countOf isValue rs + failedOf 1 s rs) + (countOf isGradient rs + failedOf 2 s rs) + (countOf isNotice rs + failedOf 3 s rs)
+unfolding countOf failedOf
+replies-of s [] d = refl
+replies-of s (Reply.value v ∷ rs) d = omega (arith, replies-of s rs (d .1))
+replies-of s (Reply.gradient ws ∷ rs) d = omega (arith, replies-of s rs (d .1))
+replies-of s (Reply.notSupplied ∷ rs) d = omega (arith, replies-of s rs (d .1))
+replies-of s (Reply.goOn ∷ rs) d = omega (arith, replies-of s rs (d .1))
+replies-of s (Reply.stop ∷ rs) d = omega (arith, replies-of s rs (d .1))
+replies-of s (Reply.failure ∷ rs) d =
+    omega (arith, replies-of s rs (d .1), failed-open (run s rs .phase) (due-taken (run s rs) Reply.failure (d .0)))
+
+closed : (m : Machine) (p : Phase) → opens 1 p + opens 2 p + opens 3 p ≡ 0 → questionIn m p ≡ none
+closed m (Phase.value w) e = absurd (omega arith)
+closed m (Phase.gradient w) e = absurd (omega arith)
+closed m (Phase.probe w i side) e = absurd (omega arith)
+closed m Phase.notice e = absurd (omega arith)
+closed m (Phase.ended t) e = refl
+
+-- ---- the theorems
 
 module _ (s : Setup) (rs : List Reply) (accepted : Accepted s) (due : Due s rs) where
   pub nfev-counts-values : countOf isFailure rs ≡ 0 → run s rs .counters .nfev ≡ countOf isValue rs + openOf 1 (run s rs)
@@ -286,3 +312,20 @@ module _ (s : Setup) (rs : List Reply) (accepted : Accepted s) (due : Due s rs) 
 
   pub nit-within-budget : run s rs .counters .nit ≤ limitsOf s .maxiter
   nit-within-budget = counted s rs accepted due .noticeBudget
+
+  -- while a value or a gradient is asked, an iteration is left
+  pub iteration-left : run s rs .counters .nit + openOf 1 (run s rs) + openOf 2 (run s rs) ≤ limitsOf s .maxiter
+  iteration-left = omega (arith, tally s rs accepted due .room, ap (λ (l : Limits). l .maxiter) (limits-stay s rs due))
+
+  -- an open question counts as its reply
+  replies-and-question : length rs + openOf 1 (run s rs) + openOf 2 (run s rs) + openOf 3 (run s rs) ≤ 2 * limitsOf s .maxfev + limitsOf s .maxiter
+  replies-and-question = let h = counted s rs accepted due in omega (arith, replies-of s rs due, h .values, h .notices, h .gradients, h .valueBudget, h .noticeBudget)
+
+  pub replies-bounded : length rs ≤ 2 * limitsOf s .maxfev + limitsOf s .maxiter
+  replies-bounded = omega (arith, replies-and-question)
+
+  pub ended-with-most-replies : length rs ≡ 2 * limitsOf s .maxfev + limitsOf s .maxiter → question (run s rs) ≡ none
+  ended-with-most-replies e = closed (run s rs) (run s rs .phase) (omega (arith, replies-and-question))
+
+pub ended-is-final : (s : Setup) (rs : List Reply) (t : Termination) → run s rs .phase ≡ Phase.ended t → (r : Reply) → checkDue (run s rs) r ≡ refuse 13 0 0
+ended-is-final s rs t e r = rw (e, none-suits r)
