@@ -20,7 +20,7 @@ use Rattle.definition.specs.Driver.{withGradient, valued, learn, move, a
 use Rattle.definition.specs.Replies.{Accepted, Due, isValue, isNotice, isFailure, countOf, openOf}
 use Rattle.definition.specs.Facts.{isGradient, failedOf, unprobedFrom, lastAsked, completesGradient, gradientsCompleted, Counted}
 use Rattle.definition.proofs.Accepted.{accepted-in-limits, due-taken}
-use Rattle.definition.proofs.Steps.{Turn, turn, asking, gathered, Descends, descend-leads, Gathers, complete-leads, from-leads, probed-leads, none-suits}
+use Rattle.definition.proofs.Steps.{Turn, turn, asking, gathered, started, Descends, descend-leads, Gathers, complete-leads, from-leads, probed-leads, none-suits}
 
 -- ---- what one step counts
 
@@ -90,10 +90,8 @@ module _ {b : Machine} (g : ℕ) {j : ℕ} where
     within = λ l. omega arith;
   }
 
-  descends : Descends (Kept b j) (Kept b j) (Raised b g j)
+  descends : Descends (Kept b j) (Raised b g j)
   descends = record {
-    small = λ m h e. raised-ended Termination.gtol m h;
-    steep = λ m h e. h;
     bare = λ m h. h;
     headed = λ m e h. h;
     begun = λ m r h e. h;
@@ -105,7 +103,7 @@ module _ {b : Machine} (g : ℕ) {j : ℕ} where
 one-more : {b : Machine} (m : Machine) → Kept b 0 m → Kept b 1 (gathered m)
 one-more m h = record { terms = h .terms; limits = h .limits; values = h .values; notices = h .notices; completed = omega arith; drawn = h .drawn }
 
-gathers : (b : Machine) (g : ℕ) → Gathers (λ w. Kept b 0) (Kept b 1) (Kept b 1) (λ c. Raised b g (cond c 1 0))
+gathers : (b : Machine) (g : ℕ) → Gathers (λ w. Kept b 0) (Kept b 1) (λ c. Raised b g (cond c 1 0))
 gathers b g = record {
   descends = descends g;
   component = λ w i v m h. h;
@@ -113,10 +111,11 @@ gathers b g = record {
   probed = λ w i side m h e. raised-asked g (Phase.probe w i side) m refl h e;
   spent = λ w m h e. raised-ended g Termination.maxEvaluations m h;
   nonfinite = λ w m h e. raised-ended g Termination.nonfinite (gathered m) (one-more m h);
-  started = λ m h e. one-more m h;
+  small = λ m h e q. raised-ended g Termination.gtol (started m) (one-more m h);
+  steep = λ m h e q. one-more m h;
   tried = λ m h e. one-more m h;
-  moved = λ m h e. raised-moved g m h;
-  again = λ m r h e. h;
+  again = λ m r h e q. one-more m h;
+  moved = λ m h e q. raised-moved g (gathered m) (one-more m h);
 }
 
 -- ---- what one reply does to the counts

@@ -4,3 +4,4 @@ pub mod Example
 pub mod Accepted
 pub mod Steps
 pub mod Counts
+pub mod Statuses

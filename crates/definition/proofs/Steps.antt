@@ -15,7 +15,7 @@ use Rattle.definition.specs.Gradient.{Probes, probesAt, bothQuotient, ri
 use Rattle.definition.specs.Search.{Search, beginSearch, trialPoint, accepts, afterTrial}
 use Rattle.definition.specs.Machine.{Reply, Place, Side, Phase, Machine, state, inPhase, counting, holding, trying, withCompact, heading, searching, withRight, ending, kindOf, suits, takes}
 use Rattle.definition.specs.Driver.{Ends, chosenEnd, endsOf, gradientSmall, decreaseSmall, askValue, tryStep, trySearch, searchAlong, towards, byModel, withoutPairs, orWithoutPairs, descend, iterate, learn, move, judgeTrial, measured, complete, withGradient, withComponent, byProbes, probeFrom, probedTo, probed, valued, onValue, onGradient, onNotSupplied, onProbe, onGoOn, answerIn, answer}
-use Rattle.definition.specs.Facts.{unprobed, unprobedFrom, lastProbe, lastAsked, completesIn, completesGradient}
+use Rattle.definition.specs.Facts.{unprobed, unprobedFrom, lastProbe, lastAsked, completesIn, completesGradient, gradientFinite}
 
 -- ---- the step that a reply makes
 
@@ -119,12 +119,15 @@ pub by-test : (P : Machine → Type 0) (t : Bool) {a b : Machine} → (t ≡ tru
 by-test P true f g = f refl
 by-test P false f g = g refl
 
--- a value question raised, a gradient counted, the next trial set
+-- a value question raised; a gradient counted; the start held; the next trial set
 abbrev pub asking : Phase → Machine → Machine
 asking p m = inPhase p (counting (chargeValue (m .counters)) m)
 
 abbrev pub gathered : Machine → Machine
 gathered m = counting (chargeGradient (m .counters)) m
+
+abbrev pub started : Machine → Machine
+started m = holding (m .trial) (gathered m)
 
 abbrev pub aiming : Search → Machine → Machine
 aiming r m =
@@ -133,10 +136,8 @@ aiming r m =
 abbrev trialSlope : Machine → Float
 trialSlope m = dot (m .terms .n) (m .trial .g) (m .direction)
 
--- H: of a point held; S: while a step from it is sought; Q: at the next question, or the end
-pub record Descends (H S Q : Machine → Type 0) : Type 0 where
-  pub small : (m : Machine) → H m → gradientSmall m ≡ true → Q (ending Termination.gtol m)
-  pub steep : (m : Machine) → H m → gradientSmall m ≡ false → S m
+-- S: while a step from the point held is sought; Q: at the next question, or the end
+pub record Descends (S Q : Machine → Type 0) : Type 0 where
   pub bare : (m : Machine) → S m → S (withCompact noPairs m)
   pub headed : (m : Machine) (e : Ends) → S m → S (heading (difference (m .terms .n) (chosenEnd (m .terms .n) (m .held) e) (m .held .x)) m)
   pub begun : (m : Machine) (r : Search) → S m → beginSearch (m .terms .n) (m .terms .bounds) (m .held .x) (m .held .g) (m .direction) ≡ some r → S (aiming r m)
@@ -144,95 +145,94 @@ pub record Descends (H S Q : Machine → Type 0) : Type 0 where
   pub spent : (m : Machine) → S m → valueLeft (m .limits) (m .counters) ≡ false → Q (ending Termination.maxEvaluations m)
   pub asked : (m : Machine) → S m → valueLeft (m .limits) (m .counters) ≡ true → Q (asking (Phase.value Place.trial) m)
 
-module _ {H S Q : Machine → Type 0} (k : Descends H S Q) where
+module _ {S Q : Machine → Type 0} (k : Descends S Q) where
   trial-leads : (m : Machine) → S m → Q (askValue (Phase.value Place.trial) m)
   unfolding askValue
-  trial-leads m w = by-test Q (valueLeft (m .limits) (m .counters)) (k .asked m w) (k .spent m w)
+  trial-leads m h = by-test Q (valueLeft (m .limits) (m .counters)) (k .asked m h) (k .spent m h)
 
   search-leads : (m : Machine) (o : Option Search) → S m → ((r : Search) → o ≡ some r → S (aiming r m)) → Q (trySearch m o)
   unfolding tryStep
-  search-leads m none w h = k .failed m w
-  search-leads m (some r) w h = trial-leads (aiming r m) (h r refl)
+  search-leads m none h next = k .failed m h
+  search-leads m (some r) h next = trial-leads (aiming r m) (next r refl)
 
   towards-leads : (e : Ends) (m : Machine) → S m → Q (towards e m)
   unfolding towards searchAlong
-  towards-leads e m w =
+  towards-leads e m h =
       let m' = heading (difference (m .terms .n) (chosenEnd (m .terms .n) (m .held) e) (m .held .x)) m in
-      let w' = k .headed m e w in
-      search-leads m' (beginSearch (m .terms .n) (m .terms .bounds) (m .held .x) (m .held .g) (m' .direction)) w' (λ r. k .begun m' r w')
+      let h' = k .headed m e h in
+      search-leads m' (beginSearch (m .terms .n) (m .terms .bounds) (m .held .x) (m .held .g) (m' .direction)) h' (λ r. k .begun m' r h')
 
   model-leads : (m : Machine) (o : Option Ends) → S m → Q (byModel m o)
-  model-leads m none w = k .failed m w
-  model-leads m (some e) w = towards-leads e m w
+  model-leads m none h = k .failed m h
+  model-leads m (some e) h = towards-leads e m h
 
   pairs-lead : (m : Machine) (o : Option Ends) → S m → Q (orWithoutPairs m o)
   unfolding withoutPairs
-  pairs-lead m none w =
-      by-test Q (eqb (count (m .compact)) 0) (λ _. k .failed m w) (λ _. model-leads (withCompact noPairs m) (endsOf (m .terms) noPairs (m .held)) (k .bare m w))
-  pairs-lead m (some e) w = towards-leads e m w
+  pairs-lead m none h =
+      by-test Q (eqb (count (m .compact)) 0) (λ _. k .failed m h) (λ _. model-leads (withCompact noPairs m) (endsOf (m .terms) noPairs (m .held)) (k .bare m h))
+  pairs-lead m (some e) h = towards-leads e m h
 
   pub descend-leads : (m : Machine) → S m → Q (descend m)
   unfolding descend
-  descend-leads m w = pairs-lead m (endsOf (m .terms) (m .compact) (m .held)) w
-
-  pub iterate-leads : (m : Machine) → H m → Q (iterate m)
-  unfolding iterate
-  iterate-leads m v = by-test Q (gradientSmall m) (k .small m v) (λ e. descend-leads m (k .steep m v e))
+  descend-leads m h = pairs-lead m (endsOf (m .terms) (m .compact) (m .held)) h
 
 -- G: while the gradient at a place is gathered; Q true: once it is complete
-pub record Gathers (G : Place → Machine → Type 0) (H S : Machine → Type 0) (Q : Bool → Machine → Type 0) : Type 0 where
-  pub descends : Descends H S (Q true)
+pub record Gathers (G : Place → Machine → Type 0) (S : Machine → Type 0) (Q : Bool → Machine → Type 0) : Type 0 where
+  pub descends : Descends S (Q true)
   pub component : (w : Place) (i : ℕ) (v : Float) (m : Machine) → G w m → G w (withComponent i v m)
   pub right : (w : Place) (v : Float) (m : Machine) → G w m → G w (withRight v m)
   pub probed : (w : Place) (i : ℕ) (side : Side) (m : Machine) → G w m → valueLeft (m .limits) (m .counters) ≡ true → Q false (asking (Phase.probe w i side) m)
   pub spent : (w : Place) (m : Machine) → G w m → valueLeft (m .limits) (m .counters) ≡ false → Q false (ending Termination.maxEvaluations m)
-  pub nonfinite : (w : Place) (m : Machine) → G w m → allFinite (m .terms .n) (m .trial .g) ≡ false → Q true (ending Termination.nonfinite (gathered m))
-  pub started : (m : Machine) → G Place.start m → allFinite (m .terms .n) (m .trial .g) ≡ true → H (holding (m .trial) (gathered m))
-  pub tried : (m : Machine) → G Place.trial m → allFinite (m .terms .n) (m .trial .g) ≡ true → S (gathered m)
-  pub moved : (m : Machine) → S m → accepts (m .search) (m .held .f) (m .trial .f) (trialSlope m) ≡ true → Q true (move (learn m))
-  pub again : (m : Machine) (r : Search) → S m → afterTrial (m .search) (m .held .f) (m .trial .f) (trialSlope m) ≡ some r → S (aiming r m)
+  pub nonfinite : (w : Place) (m : Machine) → G w m → gradientFinite m ≡ false → Q true (ending Termination.nonfinite (gathered m))
+  pub small : (m : Machine) → G Place.start m → gradientFinite m ≡ true → gradientSmall (started m) ≡ true → Q true (ending Termination.gtol (started m))
+  pub steep : (m : Machine) → G Place.start m → gradientFinite m ≡ true → gradientSmall (started m) ≡ false → S (started m)
+  pub tried : (m : Machine) → G Place.trial m → gradientFinite m ≡ true → S (gathered m)
+  pub again : (m : Machine) (r : Search) → G Place.trial m → gradientFinite m ≡ true → afterTrial (m .search) (m .held .f) (m .trial .f) (trialSlope m) ≡ some r → S (aiming r (gathered m))
+  pub moved : (m : Machine) → G Place.trial m → gradientFinite m ≡ true → accepts (m .search) (m .held .f) (m .trial .f) (trialSlope m) ≡ true → Q true (move (learn (gathered m)))
 
-module _ {G : Place → Machine → Type 0} {H S : Machine → Type 0} {Q : Bool → Machine → Type 0} (k : Gathers G H S Q) where
-  judge-leads : (m : Machine) → S m → Q true (judgeTrial m)
+module _ {G : Place → Machine → Type 0} {S : Machine → Type 0} {Q : Bool → Machine → Type 0} (k : Gathers G S Q) where
+  judge-leads : (m : Machine) → G Place.trial m → gradientFinite m ≡ true → Q true (judgeTrial (gathered m))
   unfolding judgeTrial
-  judge-leads m w =
-      by-test (Q true) (accepts (m .search) (m .held .f) (m .trial .f) (trialSlope m)) (k .moved m w)
-      (λ _. search-leads (k .descends) m (afterTrial (m .search) (m .held .f) (m .trial .f) (trialSlope m)) w (λ r. k .again m r w))
+  judge-leads m h e =
+      by-test (Q true) (accepts (m .search) (m .held .f) (m .trial .f) (trialSlope m)) (k .moved m h e)
+      (λ _. search-leads (k .descends) (gathered m) (afterTrial (m .search) (m .held .f) (m .trial .f) (trialSlope m)) (k .tried m h e) (λ r. k .again m r h e))
 
-  measured-leads : (w : Place) (m : Machine) → G w m → allFinite (m .terms .n) (m .trial .g) ≡ true → Q true (measured w (gathered m))
-  measured-leads Place.start m p e = iterate-leads (k .descends) (holding (m .trial) (gathered m)) (k .started m p e)
-  measured-leads Place.trial m p e = judge-leads (gathered m) (k .tried m p e)
+  measured-leads : (w : Place) (m : Machine) → G w m → gradientFinite m ≡ true → Q true (measured w (gathered m))
+  unfolding iterate
+  measured-leads Place.start m h e =
+      by-test (Q true) (gradientSmall (started m)) (k .small m h e) (λ q. descend-leads (k .descends) (started m) (k .steep m h e q))
+  measured-leads Place.trial m h e = judge-leads m h e
 
   pub complete-leads : (w : Place) (m : Machine) → G w m → Q true (complete w m)
   unfolding complete
-  complete-leads w m p = by-test (Q true) (allFinite (m .terms .n) (m .trial .g)) (measured-leads w m p) (k .nonfinite w m p)
+  complete-leads w m h = by-test (Q true) (gradientFinite m) (measured-leads w m h) (k .nonfinite w m h)
 
   ask-leads : (w : Place) (i : ℕ) (side : Side) (m : Machine) → G w m → Q false (askValue (Phase.probe w i side) m)
   unfolding askValue
-  ask-leads w i side m p = by-test (Q false) (valueLeft (m .limits) (m .counters)) (k .probed w i side m p) (k .spent w m p)
+  ask-leads w i side m h = by-test (Q false) (valueLeft (m .limits) (m .counters)) (k .probed w i side m h) (k .spent w m h)
 
   probes-lead : (w : Place) (i : ℕ) (m next : Machine) (q : Probes) (c : Bool) → G w m → Q c next → Q (unprobed q && c) (byProbes w i m next q)
-  probes-lead w i m next Probes.neither c p h = h
-  probes-lead w i m next (Probes.both r l) c p h = ask-leads w i Side.right m p
-  probes-lead w i m next (Probes.rightOnly r) c p h = ask-leads w i Side.right m p
-  probes-lead w i m next (Probes.leftOnly l) c p h = ask-leads w i Side.left m p
+  probes-lead w i m next Probes.neither c h n = n
+  probes-lead w i m next (Probes.both r l) c h n = ask-leads w i Side.right m h
+  probes-lead w i m next (Probes.rightOnly r) c h n = ask-leads w i Side.right m h
+  probes-lead w i m next (Probes.leftOnly l) c h n = ask-leads w i Side.left m h
 
   pub from-leads : (more : ℕ) (w : Place) (i : ℕ) (m : Machine) → G w m → Q (unprobedFrom more (m .terms) (m .trial .x) i) (probeFrom more w i m)
   unfolding probeFrom unprobedFrom
-  from-leads zero w i m p = complete-leads w m p
-  from-leads (suc more) w i m p =
+  from-leads zero w i m h = complete-leads w m h
+  from-leads (suc more) w i m h =
       let m' = withComponent i zero64 m in
-      probes-lead w i m (probeFrom more w (i + 1) m') (probesAt (m .terms) (m .trial .x) i) (unprobedFrom more (m .terms) (m .trial .x) (i + 1)) p
-      (from-leads more w (i + 1) m' (k .component w i zero64 m p))
+      probes-lead w i m (probeFrom more w (i + 1) m') (probesAt (m .terms) (m .trial .x) i) (unprobedFrom more (m .terms) (m .trial .x) (i + 1)) h
+      (from-leads more w (i + 1) m' (k .component w i zero64 m h))
 
   to-leads : (w : Place) (i : ℕ) (v : Float) (m : Machine) → G w m → Q (unprobedFrom (m .terms .n - (i + 1)) (m .terms) (m .trial .x) (i + 1)) (probedTo w i v m)
-  to-leads w i v m p = from-leads (m .terms .n - (i + 1)) w (i + 1) (withComponent i v m) (k .component w i v m p)
+  to-leads w i v m h = from-leads (m .terms .n - (i + 1)) w (i + 1) (withComponent i v m) (k .component w i v m h)
 
   pub probed-leads :
       (w : Place) (i : ℕ) (q : Probes) (side : Side) (v : Float) (m : Machine) → G w m
       → Q (lastProbe q side && unprobedFrom (m .terms .n - (i + 1)) (m .terms) (m .trial .x) (i + 1)) (probed w i q side v m)
-  probed-leads w i Probes.neither side v m p = to-leads w i zero64 m p
-  probed-leads w i (Probes.both r l) Side.right v m p = ask-leads w i Side.left (withRight v m) (k .right w v m p)
-  probed-leads w i (Probes.both r l) Side.left v m p = to-leads w i (bothQuotient r l (m .rightValue) v) m p
-  probed-leads w i (Probes.rightOnly r) side v m p = to-leads w i (rightQuotient (word (m .trial .x) i) (m .trial .f) r v) m p
-  probed-leads w i (Probes.leftOnly l) side v m p = to-leads w i (leftQuotient (word (m .trial .x) i) (m .trial .f) l v) m p
+  probed-leads w i Probes.neither side v m h = to-leads w i zero64 m h
+  probed-leads w i (Probes.both r l) Side.right v m h = ask-leads w i Side.left (withRight v m) (k .right w v m h)
+  probed-leads w i (Probes.both r l) Side.left v m h = to-leads w i (bothQuotient r l (m .rightValue) v) m h
+  probed-leads w i (Probes.rightOnly r) side v m h = to-leads w i (rightQuotient (word (m .trial .x) i) (m .trial .f) r v) m h
+  probed-leads w i (Probes.leftOnly l) side v m h = to-leads w i (leftQuotient (word (m .trial .x) i) (m .trial .f) l v) m h

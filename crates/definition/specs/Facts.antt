@@ -92,6 +92,45 @@ pub record Counted (s : Setup) (rs : List Reply) : Type 0 where
   pub valueBudget : run s rs .counters .nfev ≤ limitsOf s .maxfev
   pub noticeBudget : run s rs .counters .nit ≤ limitsOf s .maxiter
 
+-- ---- statuses: r is the last reply, c says whether it completes a gradient, m is the machine after it
+
+-- the gradient at the point asked about has finite components only
+abbrev pub gradientFinite : Machine → Bool
+gradientFinite m = allFinite (m .terms .n) (m .trial .g)
+
+-- convergence of the gradient is tested: on go on with an iteration left, and when the first gradient is complete
+pub data Tested (c : Bool) (r : Reply) (m : Machine) : Type 0 where
+  onGoOn : r ≡ Reply.goOn → m .counters .nit < m .limits .maxiter → Tested c r m
+  atStart : c ≡ true → m .counters .njev ≡ 1 → gradientFinite m ≡ true → Tested c r m
+
+-- a value that is not finite, or a gradient just completed that has such a component
+pub data Nonfinite (c : Bool) (r : Reply) (m : Machine) : Type 0 where
+  value : (v : ℕ) → r ≡ Reply.value v → finite (toFloat v) ≡ false → Nonfinite c r m
+  gradient : c ≡ true → gradientFinite m ≡ false → Nonfinite c r m
+
+-- the situation that a status names
+abbrev pub Situation : Termination → Bool → Reply → Machine → Type 0
+Situation Termination.gtol c r m = Tested c r m × (gradientSmall m ≡ true)
+Situation Termination.ftol c r m = (r ≡ Reply.goOn) × (m .counters .nit < m .limits .maxiter) × (gradientSmall m ≡ false) × (decreaseSmall m ≡ true)
+Situation Termination.maxIterations c r m = (r ≡ Reply.goOn) × (m .counters .nit ≡ m .limits .maxiter)
+Situation Termination.maxEvaluations c r m = (m .counters .nfev ≡ m .limits .maxfev) × (m .counters .nit < m .limits .maxiter)
+Situation Termination.cancelled c r m = r ≡ Reply.stop
+Situation Termination.nonfinite c r m = Nonfinite c r m
+Situation Termination.lineSearchFailed c r m =
+    (gradientSmall m ≡ false) × (m .counters .nit < m .limits .maxiter) × (1 ≤ m .counters .nit → decreaseSmall m ≡ false)
+Situation Termination.objectiveFailed c r m = r ≡ Reply.failure
+
+-- the statuses that come whenever their situation does: a fit at its last value need not want another, and a search may find its step
+abbrev pub exact : Termination → Bool
+exact Termination.gtol = true
+exact Termination.ftol = true
+exact Termination.maxIterations = true
+exact Termination.maxEvaluations = false
+exact Termination.cancelled = true
+exact Termination.nonfinite = true
+exact Termination.lineSearchFailed = false
+exact Termination.objectiveFailed = true
+
 -- ---- sizes
 
 -- what an accepted setup keeps to
