@@ -263,7 +263,7 @@ none-failed kind s (r ∷ rs) e = go (isFailure r) (none-failed kind s rs (omega
     go false h e = omega arith
 
 -- a question that failed was open
-failed-open : (p : Phase) → suits (kindOf p) Reply.failure ≡ true → opens 1 p + opens 2 p + opens 3 p ≡ 1
+pub failed-open : (p : Phase) → suits (kindOf p) Reply.failure ≡ true → opens 1 p + opens 2 p + opens 3 p ≡ 1
 failed-open (Phase.value w) e = refl
 failed-open (Phase.gradient w) e = refl
 failed-open (Phase.probe w i side) e = refl

@@ -5,3 +5,4 @@ pub mod Accepted
 pub mod Steps
 pub mod Counts
 pub mod Statuses
+pub mod Sizes

@@ -18,6 +18,7 @@ use Rattle.definition.specs.Gradient.{Probes, probesAt}
 use Rattle.definition.specs.Search.{searchTrials}
 use Rattle.definition.specs.Machine.{Reply, State, Side, Phase, Machine}
 use Rattle.definition.specs.Driver.{run, gradientSmall, decreaseSmall}
+use Rattle.definition.specs.Record.{wordSize}
 use Rattle.definition.specs.Replies.{isValue, isNotice, isFailure, countOf, openOf}
 
 -- ---- counts
@@ -141,3 +142,50 @@ pub record InLimits (s : Setup) : Type 0 where
   pub maxfev : (1 ≤ limitsOf s .maxfev) × (limitsOf s .maxfev ≤ mostBudget)
   pub lower : length (boundsOf s .lower) ≡ dimension s
   pub upper : length (boundsOf s .upper) ≡ dimension s
+
+-- each of a list
+abbrev pub Each : {A : Type 0} → (A → Type 0) → List A → Type 0
+Each P [] = Unit {0}
+Each P (a ∷ rest) = P a × Each P rest
+
+-- a point with its gradient, and a pair, of n words each
+abbrev pub StateSized : ℕ → State → Type 0
+StateSized n h = (length (h .x) ≡ n) × (length (h .g) ≡ n)
+
+abbrev pub PairSized : ℕ → Pair → Type 0
+PairSized n p = (length (p .s) ≡ n) × (length (p .y) ≡ n)
+
+-- n words in every vector, at most maxcor pairs, at most 60 trials of a search
+pub record SizedAs (n maxcor : ℕ) (held trial : State) (direction : List Float) (pairs : List Pair) (trials : ℕ) : Type 0 where
+  pub heldWords : StateSized n held
+  pub trialWords : StateSized n trial
+  pub directionWords : length direction ≡ n
+  pub fewPairs : length pairs ≤ maxcor
+  pub pairWords : Each (PairSized n) pairs
+  pub fewTrials : trials ≤ searchTrials
+
+abbrev pub Sized : Setup → Machine → Type 0
+Sized s m = SizedAs (dimension s) (maxcorOf s) (m .held) (m .trial) (m .direction) (m .compact .pairs) (m .search .trials)
+
+-- every float of the setup is a binary64 value, written in the one way
+abbrev pub Fits : Float → Type 0
+Fits v = T (fits binary64 v)
+
+abbrev pub IfGiven : {A : Type 0} → (A → Type 0) → Option A → Type 0
+IfGiven P none = Unit {0}
+IfGiven P (some a) = P a
+
+abbrev pub BoundsFit : Bounds → Type 0
+BoundsFit b = Each Fits (b .lower) × Each Fits (b .upper)
+
+pub record FloatsFit (s : Setup) : Type 0 where
+  pub x0 : Each Fits (s .x0)
+  pub bounds : IfGiven BoundsFit (s .bounds)
+  pub tol : IfGiven Fits (s .tol)
+  pub ftol : IfGiven Fits (s .ftol)
+  pub gtol : IfGiven Fits (s .gtol)
+  pub eps : IfGiven Fits (s .eps)
+
+-- a word of 64 bits
+abbrev pub IsWord : ℕ → Type 0
+IsWord w = w < wordSize

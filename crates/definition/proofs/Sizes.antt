@@ -1,0 +1,336 @@
+-- Sizes: every vector of the machine has n words at all times; how long the words of a setup, an entry and a log can be. Assumes nothing.
+use Prim.Native.Nat.{ℕ, zero, suc, _+_, _-_, _*_, _≤_, _<_}
+use native.Mathlib.Omega.{arith}
+use native.Mathlib.Nat.{mul-add, add-mul, mul-le-mul, mul-le-mul-left}
+use mathlib.Core.Path.{_≡_, refl, sym, ap, _∙_, subst}
+use mathlib.Core.Bool.{Bool, true, false, not, cond, _&&_, _||_, false≢true}
+use mathlib.Core.List.{List, [], _∷_, _++_, map}
+use mathlib.Core.Option.{Option, none, some}
+use lib.Dec.{T, eqb, leb, lit<, lit≤}
+use lib.ListN.{length, drop, set, length-append, length-drop, length-set, length-map}
+use lib.Ieee as Ieee
+use lib.Ieee.{Float, binary64}
+use lib.Ieee.Scale.{finite}
+use lib.Ieee.Bits.{toBits-lt}
+use borrow.Author.Tests.{leb-false, eqb-true, eqb-false, not-true, not-false}
+use Rattle.definition.specs.Number.{over, zero64, toFloat, toWord}
+use Rattle.definition.specs.Vector.{tab, zeros, dot, difference}
+use Rattle.definition.specs.Problem.{Setup, Terms, Bounds, Scheme, dimension, maxcorOf, boundsOf, termsOf, limitsOf, projectedStart, orElse, openBounds, mostCoordinates, mostPairs, areaWords, areaNeeded}
+use Rattle.definition.specs.Compact.{Pair, Compact, noPairs, curved, usable, makeRoom, pushed, update}
+use Rattle.definition.specs.Gradient.{probesAt}
+use Rattle.definition.specs.Search.{Search, Limit, limitOf, firstSearch, withLimit, beginSearch, trialPoint, searchTrials, following, goesOn, lowAfter, highAfter, nextTrial, afterTrial}
+use Rattle.definition.specs.Machine.{Reply, State, Place, Phase, Machine, state, holding, trying, withCompact, heading, searching, checkDue}
+use Rattle.definition.specs.Driver.{learn, move, withGradient, valued, begin, run}
+use Rattle.definition.specs.Log.{entryWords, logWords}
+use Rattle.definition.specs.Record.{optionalFloat, boxFlag, schemeFlag, boundWords, setupWords}
+use Rattle.definition.specs.Replies.{Accepted, Due, isValue, isNotice, countOf, openOf}
+use Rattle.definition.specs.Facts.{isGradient, failedOf, Each, StateSized, PairSized, SizedAs, Sized, Fits, IfGiven, BoundsFit, FloatsFit, IsWord}
+use Rattle.definition.proofs.Accepted.{accepted-in-limits, due-taken, due-length, tab-length}
+use Rattle.definition.proofs.Steps.{Turn, turn, gathered, started, aiming, Descends, descend-leads, Gathers, complete-leads, from-leads, probed-leads}
+use Rattle.definition.proofs.Counts.{terms-stay, counted, failed-open}
+
+-- ---- the trials of a search
+
+-- of a search that goes on
+Few : Option Search → Type 0
+Few none = Unit {0}
+Few (some r) = r .trials ≤ searchTrials
+
+few-cond : (t : Bool) (o : Option Search) → (t ≡ true → Few o) → Few (cond t o none)
+unfolding Few
+few-cond true o h = h refl
+few-cond false o h = tt
+
+few-at : (o : Option Search) (r : Search) → Few o → o ≡ some r → r .trials ≤ searchTrials
+unfolding Few
+few-at o r h e = subst Few e h
+
+begun-few : (n : ℕ) (b : Bounds) (x g d : List Float) → Few (beginSearch n b x g d)
+unfolding Few beginSearch
+begun-few n b x g d =
+    let slope0 = dot n g d in
+    let l = limitOf n b x d in
+    few-cond (finite slope0 && Ieee.lt slope0 zero64) (withLimit slope0 l)
+    (λ _. few-cond (finite (l .amax) && Ieee.lt zero64 (l .amax)) (some (firstSearch slope0 l)) (λ _. lit≤ tt))
+
+-- a search that goes on is below its last trial
+goes-on : (a b c : Bool) → not (a || b || c) ≡ true → c ≡ false
+goes-on true b c e = absurd (false≢true e)
+goes-on false true c e = absurd (false≢true e)
+goes-on false false true e = absurd (false≢true e)
+goes-on false false false e = refl
+
+next-few : (s : Search) (f v slope : Float) → Few (afterTrial s f v slope)
+unfolding Few afterTrial
+next-few s f v slope =
+    let low = lowAfter s f v slope in
+    let high = highAfter s f v slope in
+    let next = following s low high in
+    few-cond (goesOn s next) (some (record { alpha = next; low = low; high = high; slope0 = s .slope0; amax = s .amax; face = s .face; trials = s .trials + 1 }))
+    (λ e. omega (arith, leb-false searchTrials (s .trials) (goes-on (Ieee.eq next (s .alpha)) (Ieee.eq next zero64) (leb searchTrials (s .trials)) e)))
+
+-- ---- the pairs
+
+module _ {A : Type 0} (P : A → Type 0) where
+  each-append : (l r : List A) → Each P l → Each P r → Each P (l ++ r)
+  each-append [] r p q = q
+  each-append (a ∷ l) r p q = (p .0, each-append l r (p .1) q)
+
+  each-drop : (k : ℕ) (l : List A) → Each P l → Each P (drop k l)
+  each-drop zero l p = p
+  each-drop (suc k) [] p = tt
+  each-drop (suc k) (a ∷ l) p = each-drop k l (p .1)
+
+record PairsAs (n maxcor : ℕ) (ps : List Pair) : Type 0 where
+  few : length ps ≤ maxcor
+  words : Each (PairSized n) ps
+
+-- room for one more
+room-made : (n maxcor : ℕ) (ps : List Pair) → 1 ≤ maxcor → PairsAs n maxcor ps → (length (makeRoom maxcor ps) + 1 ≤ maxcor) × Each (PairSized n) (makeRoom maxcor ps)
+room-made n maxcor ps one h = go (eqb (length ps) maxcor) refl
+  where
+    go : (t : Bool) → eqb (length ps) maxcor ≡ t → (length (cond t (drop 1 ps) ps) + 1 ≤ maxcor) × Each (PairSized n) (cond t (drop 1 ps) ps)
+    go true e = (omega (arith, length-drop 1 ps, eqb-true (length ps) maxcor e), each-drop (PairSized n) 1 ps (h .words))
+    go false e = (omega (arith, h .few, eqb-false (length ps) maxcor e), h .words)
+
+pairs-cond : {n maxcor : ℕ} (t : Bool) (c d : Compact) → PairsAs n maxcor (c .pairs) → PairsAs n maxcor (d .pairs) → PairsAs n maxcor (cond t c d .pairs)
+pairs-cond true c d p q = p
+pairs-cond false c d p q = q
+
+updated-pairs :
+    (n maxcor : ℕ) (c : Compact) (s y : List Float) → 1 ≤ maxcor → length s ≡ n → length y ≡ n → PairsAs n maxcor (c .pairs)
+    → PairsAs n maxcor (update n maxcor c s y .pairs)
+unfolding update
+updated-pairs n maxcor c s y one p q h =
+    let room = room-made n maxcor (c .pairs) one h in
+    let sy = dot n s y in
+    let yy = dot n y y in
+    let theta = over yy sy in
+    pairs-cond (curved sy yy && usable theta) (pushed maxcor c (record { s = s; y = y }) theta) c
+    (record { few = omega (arith, length-append (makeRoom maxcor (c .pairs)) (record { s = s; y = y } ∷ []), room .0); words = each-append (PairSized n) (makeRoom maxcor (c .pairs)) _ (room .1) ((p, q), tt) })
+    h
+
+-- ---- the machine
+
+-- what `learn` makes of the pairs
+abbrev learnt : Terms → Machine → Compact
+learnt t m =
+    update (t .n) (t .maxcor) (m .compact) (difference (t .n) (m .trial .x) (m .held .x)) (difference (t .n) (m .trial .g) (m .held .g))
+
+module _ (s : Setup) (one : 1 ≤ maxcorOf s) where
+  abbrev Keeps : Machine → Type 0
+  Keeps m = (m .terms ≡ termsOf s) × Sized s m
+
+  n-is : (m : Machine) → Keeps m → m .terms .n ≡ dimension s
+  n-is m h = ap (λ (t : Terms). t .n) (h .0)
+
+  n-words : (m : Machine) (f : ℕ → Float) → Keeps m → length (tab (m .terms .n) f) ≡ dimension s
+  n-words m f h = tab-length (m .terms .n) f ∙ n-is m h
+
+  -- the parts that a step changes
+  turned : (m : Machine) (d : List Float) → length d ≡ dimension s → Keeps m → Keeps (heading d m)
+  turned m d l h =
+      let z = h .1 in
+      (h .0, record { heldWords = z .heldWords; trialWords = z .trialWords; directionWords = l; fewPairs = z .fewPairs; pairWords = z .pairWords; fewTrials = z .fewTrials })
+
+  regarded : (m : Machine) (t : State) (r : Search) → StateSized (dimension s) t → r .trials ≤ searchTrials → Keeps m → Keeps (searching r (trying t m))
+  regarded m t r l k h =
+      let z = h .1 in
+      (h .0, record { heldWords = z .heldWords; trialWords = l; directionWords = z .directionWords; fewPairs = z .fewPairs; pairWords = z .pairWords; fewTrials = k })
+
+  held : (m : Machine) (t : State) → StateSized (dimension s) t → Keeps m → Keeps (holding t m)
+  held m t l h =
+      let z = h .1 in
+      (h .0, record { heldWords = l; trialWords = z .trialWords; directionWords = z .directionWords; fewPairs = z .fewPairs; pairWords = z .pairWords; fewTrials = z .fewTrials })
+
+  paired : (m : Machine) (c : Compact) → PairsAs (dimension s) (maxcorOf s) (c .pairs) → Keeps m → Keeps (withCompact c m)
+  paired m c p h =
+      let z = h .1 in
+      (h .0, record { heldWords = z .heldWords; trialWords = z .trialWords; directionWords = z .directionWords; fewPairs = p .few; pairWords = p .words; fewTrials = z .fewTrials })
+
+  aimed : (m : Machine) (o : Option Search) (r : Search) → Few o → o ≡ some r → Keeps m → Keeps (aiming r m)
+  unfolding trialPoint
+  aimed m o r f e h = regarded m _ r (n-words m _ h, h .1 .trialWords .1) (few-at o r f e) h
+
+  differenced-gradient : (m : Machine) (g : List Float) → length g ≡ dimension s → Keeps m → Keeps (withGradient g m)
+  differenced-gradient m g l h = regarded m (state (m .trial .x) (m .trial .f) g) (m .search) (h .1 .trialWords .0, l) (h .1 .fewTrials) h
+
+  learned : (m : Machine) → Keeps m → Keeps (learn m)
+  unfolding learn
+  learned m h =
+      let pairs = updated-pairs (dimension s) (maxcorOf s) (m .compact) _ _ one (tab-length (dimension s) _) (tab-length (dimension s) _) (record { few = h .1 .fewPairs; words = h .1 .pairWords }) in
+      paired m (learnt (m .terms) m) (subst (λ (t : Terms). PairsAs (dimension s) (maxcorOf s) (learnt t m .pairs)) (sym (h .0)) pairs) h
+
+  descends : Descends Keeps Keeps
+  descends = record {
+    bare = λ m h. paired m noPairs (record { few = omega arith; words = tt }) h;
+    headed = λ m e h. turned m _ (n-words m _ h) h;
+    begun = λ m r h e. aimed m _ r (begun-few (m .terms .n) (m .terms .bounds) (m .held .x) (m .held .g) (m .direction)) e h;
+    failed = λ m h. h;
+    spent = λ m h e. h;
+    asked = λ m h e. h;
+  }
+
+  gathers : Gathers (λ w. Keeps) Keeps (λ c. Keeps)
+  unfolding move learn
+  gathers = record {
+    descends = descends;
+    component = λ w i v m h. differenced-gradient m (set (m .trial .g) i v) (length-set (m .trial .g) i v ∙ h .1 .trialWords .1) h;
+    right = λ w v m h. h;
+    probed = λ w i side m h e. h;
+    spent = λ w m h e. h;
+    nonfinite = λ w m h e. h;
+    small = λ m h e q. held m (m .trial) (h .1 .trialWords) h;
+    steep = λ m h e q. held m (m .trial) (h .1 .trialWords) h;
+    tried = λ m h e. h;
+    again = λ m r h e q. aimed (gathered m) _ r (next-few (m .search) (m .held .f) (m .trial .f) (dot (m .terms .n) (m .trial .g) (m .direction))) q h;
+    moved = λ m h e q. let k = learned (gathered m) h in held (learn (gathered m)) (m .trial) (h .1 .trialWords) k;
+  }
+
+  kept-value : (w : Place) (v : Float) (m : Machine) → Keeps m → Keeps (valued w v m)
+  kept-value Place.start v m h =
+      let t = state (m .trial .x) v (m .trial .g) in
+      held (trying t m) (state (m .held .x) v (m .held .g)) (h .1 .heldWords) (regarded m t (m .search) (h .1 .trialWords) (h .1 .fewTrials) h)
+  kept-value Place.trial v m h = regarded m (state (m .trial .x) v (m .trial .g)) (m .search) (h .1 .trialWords) (h .1 .fewTrials) h
+
+  kept : {b : Machine} {r : Reply} {c : Bool} {m : Machine} → Turn b r c m → checkDue b r ≡ none → Keeps b → Keeps m
+  kept {b} (Turn.value w v e q) d h = kept-value w (toFloat v) b h
+  kept {b} (Turn.nonfinite w v e q) d h = kept-value w (toFloat v) b h
+  kept {b} (Turn.probe w i side v e q) d h = probed-leads gathers w i (probesAt (b .terms) (b .trial .x) i) side (toFloat v) b h
+  kept {b} (Turn.nonfiniteProbe w i side v e q) d h = h
+  kept {b} (Turn.supplied w ws e) d h =
+      complete-leads gathers w (withGradient (map toFloat ws) b)
+      (differenced-gradient b (map toFloat ws) (length-map ws toFloat ∙ due-length b ws d ∙ n-is b h) h)
+  kept {b} (Turn.differenced w e) d h =
+      from-leads gathers (b .terms .n) w 0 (withGradient (zeros (b .terms .n)) b) (differenced-gradient b (zeros (b .terms .n)) (n-words b _ h) h)
+  kept {b} (Turn.spent e p) d h = h
+  kept {b} (Turn.small e p q) d h = h
+  kept {b} (Turn.level e p q k) d h = h
+  kept {b} (Turn.onward e p q k) d h = descend-leads descends b h
+  kept {b} (Turn.stops e) d h = h
+  kept {b} (Turn.fails e) d h = h
+  kept {b} (Turn.unmoved r c e) d h = h
+
+  kept-all : (rs : List Reply) → Due s rs → Keeps (run s rs)
+  unfolding run begin projectedStart
+  kept-all [] d =
+      let x = tab-length (dimension s) _ in
+      let g = tab-length (dimension s) _ in
+      (refl, record { heldWords = (x, g); trialWords = (x, g); directionWords = g; fewPairs = omega arith; pairWords = tt; fewTrials = omega arith })
+  kept-all (r ∷ rs) d = kept (turn (run s rs) r) (d .0) (kept-all rs (d .1))
+
+-- ---- the theorems
+
+pub sizes : (s : Setup) (rs : List Reply) → Accepted s → Due s rs → Sized s (run s rs)
+sizes s rs a d = kept-all s (accepted-in-limits s a .pairs .0) rs d .1
+
+pub bounds-sized : (s : Setup) (rs : List Reply) → Accepted s → Due s rs
+    → (length (run s rs .terms .bounds .lower) ≡ dimension s) × (length (run s rs .terms .bounds .upper) ≡ dimension s)
+bounds-sized s rs a d =
+    let l = accepted-in-limits s a in
+    let t = terms-stay s rs d in
+    (ap (λ (k : Terms). length (k .bounds .lower)) t ∙ l .lower, ap (λ (k : Terms). length (k .bounds .upper)) t ∙ l .upper)
+
+-- ---- the words of a setup
+
+each-word : (xs : List Float) → Each Fits xs → Each IsWord (map toWord xs)
+each-word [] h = tt
+each-word (x ∷ xs) h = (toBits-lt binary64 x (h .0), each-word xs (h .1))
+
+given-word : (o : Option Float) → IfGiven Fits o → IsWord (optionalFloat o)
+given-word none h = lit< tt
+given-word (some x) h = toBits-lt binary64 x h
+
+box-words : (o : Option Bounds) → IfGiven BoundsFit o → Each IsWord (boundWords o)
+box-words none h = tt
+box-words (some b) h = each-append IsWord (map toWord (b .lower)) (map toWord (b .upper)) (each-word (b .lower) (h .0)) (each-word (b .upper) (h .1))
+
+-- a number that is given is at most what applies
+or-none : (k : Option ℕ) (default : ℕ) → orElse k 0 ≤ orElse k default
+or-none none default = omega arith
+or-none (some k) default = omega arith
+
+box-flag : (o : Option Bounds) → boxFlag o ≤ 1
+box-flag none = omega arith
+box-flag (some b) = omega arith
+
+scheme-flag : (c : Scheme) → schemeFlag c ≤ 2
+scheme-flag Scheme.forward = omega arith
+scheme-flag Scheme.central = omega arith
+
+pub setup-words-fit : (s : Setup) → Accepted s → FloatsFit s → Each IsWord (setupWords s)
+unfolding setupWords
+setup-words-fit s a f =
+    let l = accepted-in-limits s a in
+    (omega (arith, l .coordinates .1, l .pairs .1, or-none (s .maxcor) 10, box-flag (s .bounds), scheme-flag (s .scheme)),
+    (omega (arith, l .maxiter .1, or-none (s .maxiter) 15_000),
+    (omega (arith, l .maxfev .1, or-none (s .maxfev) 15_000),
+    (given-word (s .tol) (f .tol),
+    (given-word (s .ftol) (f .ftol),
+    (given-word (s .gtol) (f .gtol),
+    (given-word (s .eps) (f .eps),
+    each-append IsWord (map toWord (s .x0)) (boundWords (s .bounds)) (each-word (s .x0) (f .x0)) (box-words (s .bounds) (f .bounds)))))))))
+
+box-length :
+    (n : ℕ) (o : Option Bounds) → length (orElse o (openBounds n) .lower) ≡ n → length (orElse o (openBounds n) .upper) ≡ n
+    → length (boundWords o) ≡ boxFlag o * (2 * n)
+box-length n none p q = omega arith
+box-length n (some b) p q = omega (arith, length-append (map toWord (b .lower)) (map toWord (b .upper)), length-map (b .lower) toWord, length-map (b .upper) toWord)
+
+pub setup-length : (s : Setup) → Accepted s → length (setupWords s) ≡ 7 + dimension s + boxFlag (s .bounds) * (2 * dimension s)
+unfolding setupWords
+setup-length s a =
+    let l = accepted-in-limits s a in
+    omega (arith, length-append (map toWord (s .x0)) (boundWords (s .bounds)), length-map (s .x0) toWord, box-length (dimension s) (s .bounds) (l .lower) (l .upper))
+
+pub area-bounded : (s : Setup) → Accepted s → areaNeeded s ≤ areaWords mostCoordinates mostPairs
+area-bounded s a =
+    let l = accepted-in-limits s a in
+    let m = maxcorOf s in
+    let k : 4 * m + 16 ≤ 80 = omega (arith, l .pairs .1) in
+    let q : 4 * m ≤ 64 = omega (arith, l .pairs .1) in
+    omega (arith, mul-le-mul (l .coordinates .1) k, mul-le-mul q (l .pairs .1), l .pairs .1)
+
+-- ---- the words of a log
+
+pub entry-length : (s : Setup) (r : Reply) (rs : List Reply) → Accepted s → Due s (r ∷ rs) → length (entryWords r) ≤ dimension s + 1
+entry-length s (Reply.value v) rs a d = omega (arith, accepted-in-limits s a .coordinates .0)
+entry-length s (Reply.gradient ws) rs a d = omega (arith, due-length (run s rs) ws (d .0), ap (λ (t : Terms). t .n) (terms-stay s rs (d .1)))
+entry-length s Reply.notSupplied rs a d = omega arith
+entry-length s Reply.goOn rs a d = omega arith
+entry-length s Reply.stop rs a d = omega arith
+entry-length s Reply.failure rs a d = omega arith
+
+-- gradient replies and failed gradients, k words each: b and d of them more
+spread : (k a b c d : ℕ) → k * (a + b + (c + d)) ≡ k * (a + c) + k * b + k * d
+spread k a b c d = omega (arith, mul-add k (a + b) (c + d), mul-add k a b, mul-add k c d, mul-add k a c)
+
+-- every reply costs the words of its question at most, and so does a failure
+module _ (s : Setup) where
+  log-of :
+      (rs : List Reply) → Due s rs
+      → length (logWords rs)
+      ≤ 2 * (countOf isValue rs + failedOf 1 s rs) + (dimension s + 1) * (countOf isGradient rs + failedOf 2 s rs) + (countOf isNotice rs + failedOf 3 s rs)
+  unfolding logWords countOf failedOf
+  log-of [] d = omega arith
+  log-of (Reply.value v ∷ rs) d =
+      omega (arith, log-of rs (d .1), length-append (logWords rs) (1 ∷ v ∷ []), spread (dimension s + 1) (countOf isGradient rs) 0 (failedOf 2 s rs) 0)
+  log-of (Reply.gradient ws ∷ rs) d =
+      omega (arith, log-of rs (d .1), length-append (logWords rs) (2 ∷ ws), spread (dimension s + 1) (countOf isGradient rs) 1 (failedOf 2 s rs) 0, due-length (run s rs) ws (d .0), ap (λ (t : Terms). t .n) (terms-stay s rs (d .1)))
+  log-of (Reply.notSupplied ∷ rs) d =
+      omega (arith, log-of rs (d .1), length-append (logWords rs) (3 ∷ []), spread (dimension s + 1) (countOf isGradient rs) 1 (failedOf 2 s rs) 0)
+  log-of (Reply.goOn ∷ rs) d =
+      omega (arith, log-of rs (d .1), length-append (logWords rs) (4 ∷ []), spread (dimension s + 1) (countOf isGradient rs) 0 (failedOf 2 s rs) 0)
+  log-of (Reply.stop ∷ rs) d =
+      omega (arith, log-of rs (d .1), length-append (logWords rs) (5 ∷ []), spread (dimension s + 1) (countOf isGradient rs) 0 (failedOf 2 s rs) 0)
+  log-of (Reply.failure ∷ rs) d =
+      let open2 = openOf 2 (run s rs) in
+      omega (arith, log-of rs (d .1), length-append (logWords rs) (6 ∷ []), spread (dimension s + 1) (countOf isGradient rs) 0 (failedOf 2 s rs) open2, add-mul (dimension s) 1 open2, failed-open (run s rs .phase) (due-taken (run s rs) Reply.failure (d .0)))
+
+pub log-length : (s : Setup) (rs : List Reply) → Accepted s → Due s rs → length (logWords rs) ≤ (3 + dimension s) * limitsOf s .maxfev + limitsOf s .maxiter
+log-length s rs a d =
+    let h = counted s rs a d in
+    let k = dimension s + 1 in
+    let f = limitsOf s .maxfev in
+    let gradients : countOf isGradient rs + failedOf 2 s rs ≤ f = omega (arith, h .gradients, h .values, h .valueBudget) in
+    omega (arith, log-of s rs d, mul-le-mul-left k gradients, add-mul 3 (dimension s) f, add-mul (dimension s) 1 f, h .values, h .notices, h .valueBudget, h .noticeBudget)
