@@ -3,7 +3,7 @@ use Prim.Native.Nat.{ℕ, zero, suc, _≤_}
 use native.Mathlib.Omega.{arith}
 use mathlib.Core.Path.{_≡_, refl, ap}
 use mathlib.Core.Bool.{Bool, true, false, not}
-use mathlib.Core.List.{List, [], _∷_}
+use mathlib.Core.List.{List}
 use mathlib.Core.Option.{Option, none, some}
 use lib.Dec.{eqb, ltb}
 use lib.ListN.{length}
@@ -12,7 +12,7 @@ use lib.Ieee.Scale.{finite}
 use borrow.Author.Tests.{ltb-false, eqb-true, eqb-false, not-false}
 use Rattle.definition.specs.Vector.{tab, word}
 use Rattle.definition.specs.Problem.{Setup, Bounds, Check, refuse, when, _then_, eachIndex, given, checkSide, checkBounds, positive, finiteNonnegative, mostCoordinates, mostPairs, mostBudget, atMost, orElse, openBounds, checkProblem, checkCommon, checkOptions, checkLimits, validate}
-use Rattle.definition.specs.Machine.{Reply, Machine, takes, checkLength, checkDue}
+use Rattle.definition.specs.Machine.{Reply, Machine, takes, checkDue}
 use Rattle.definition.specs.Replies.{Accepted}
 use Rattle.definition.specs.Facts.{InLimits}
 
@@ -83,9 +83,10 @@ accepted-in-limits s e =
     let budgets = rest-passed (given (atMost mostPairs 2) (s .maxcor)) _ counts in
     let sides = box-lengths n (s .bounds) (rest-passed (eachIndex n (λ i. when (not (finite (word (s .x0) i))) (refuse 2 i 0))) _ box) in
     record {
-      coordinates =
-          (omega (arith, eqb-false n 0 (test-failed (eqb n 0) 1 0 0 (first-passed (when (eqb n 0) (refuse 1 0 0)) _ problem))),
-          ltb-false mostCoordinates n (test-failed (ltb mostCoordinates n) 10 1 0 (first-passed (atMost mostCoordinates 1 n) _ limits)));
+      coordinates = (
+        omega (arith, eqb-false n 0 (test-failed (eqb n 0) 1 0 0 (first-passed (when (eqb n 0) (refuse 1 0 0)) _ problem))),
+        ltb-false mostCoordinates n (test-failed (ltb mostCoordinates n) 10 1 0 (first-passed (atMost mostCoordinates 1 n) _ limits)),
+      );
       pairs =
           between mostPairs 10 3 2 (s .maxcor) (omega arith) (omega arith)
           (first-passed (given (positive 3) (s .maxcor)) _ pairs)

@@ -1,26 +1,24 @@
 -- The counts: each step of the machine raises at most one question, and counts it. From that, by induction on the replies, nfev and nit are the
--- replies and the open question, njev the gradients completed, each within its budget; there are at most 2 * maxfev + maxiter replies. Assumes nothing.
-use Prim.Native.Nat.{ℕ, zero, suc, _+_, _*_, _≤_, _<_}
+-- replies and the open question, njev the gradients completed, nfev and nit within their budgets. Assumes nothing.
+use Prim.Native.Nat.{ℕ, _+_, _≤_}
 use native.Mathlib.Omega.{arith}
-use mathlib.Core.Path.{_≡_, refl, sym, ap, _∙_, subst}
-use mathlib.Core.Bool.{Bool, true, false, not, cond, false≢true}
+use mathlib.Core.Path.{_≡_, refl, sym, ap, _∙_}
+use mathlib.Core.Bool.{Bool, true, false, cond, false≢true}
 use mathlib.Core.List.{List, [], _∷_, map}
-use mathlib.Core.Option.{Option, none, some}
 use lib.Dec.{eqb}
-use lib.ListN.{length}
 use lib.Ieee.{Float}
 use borrow.Author.Tests.{ltb-true, leb-false, eqb-true}
 use Rattle.definition.specs.Number.{toFloat}
 use Rattle.definition.specs.Vector.{zeros}
-use Rattle.definition.specs.Problem.{Setup, Terms, Limits, refuse, termsOf, limitsOf}
-use Rattle.definition.specs.Counters.{Termination, Counters, valueLeft, chargeGradient}
+use Rattle.definition.specs.Problem.{Setup, Terms, Limits, termsOf, limitsOf}
+use Rattle.definition.specs.Counters.{Termination, Counters, valueLeft}
 use Rattle.definition.specs.Gradient.{probesAt}
-use Rattle.definition.specs.Machine.{Reply, Place, Phase, Machine, inPhase, ending, kindOf, suits, takes, checkDue, questionIn, question}
-use Rattle.definition.specs.Driver.{withGradient, valued, learn, move, answer, begin, run}
+use Rattle.definition.specs.Machine.{Reply, Place, Phase, Machine, inPhase, ending, kindOf, suits, takes}
+use Rattle.definition.specs.Driver.{withGradient, valued, learn, move, begin, run}
 use Rattle.definition.specs.Replies.{Accepted, Due, isValue, isNotice, isFailure, countOf, openOf}
-use Rattle.definition.specs.Facts.{isGradient, failedOf, unprobedFrom, lastAsked, completesGradient, gradientsCompleted, Counted}
+use Rattle.definition.specs.Facts.{isGradient, failedOf, unprobedFrom, lastAsked, gradientsCompleted, Counted}
 use Rattle.definition.proofs.Accepted.{accepted-in-limits, due-taken}
-use Rattle.definition.proofs.Steps.{Turn, turn, asking, gathered, started, Descends, descend-leads, Gathers, complete-leads, from-leads, probed-leads, none-suits}
+use Rattle.definition.proofs.Steps.{Turn, turn, asking, gathered, started, Descends, descend-leads, Gathers, complete-leads, from-leads, probed-leads}
 
 -- ---- what one step counts
 
@@ -39,10 +37,8 @@ Kept b j m = KeptIn b j (m .terms) (m .limits) (m .counters)
 kept : (b : Machine) → Kept b 0 b
 kept b = record { terms = refl; limits = refl; values = refl; notices = refl; completed = omega arith; drawn = refl }
 
--- at the next question, or the end: the question that m has open is the one that was counted; at most g of them asks a gradient
-record Raised (b : Machine) (g j : ℕ) (m : Machine) : Type 0 where
-  terms : m .terms ≡ b .terms
-  limits : m .limits ≡ b .limits
+-- at the next question, or the end: what is open was counted; it asks at most g gradients
+record Charged (b : Machine) (g j : ℕ) (m : Machine) : Type 0 where
   values : m .counters .nfev ≡ b .counters .nfev + openOf 1 m
   notices : m .counters .nit ≡ b .counters .nit + openOf 3 m
   gradients : openOf 2 m ≤ g
@@ -50,45 +46,25 @@ record Raised (b : Machine) (g j : ℕ) (m : Machine) : Type 0 where
   drawn : m .counters .drawn + b .counters .nfev ≡ b .counters .drawn + m .counters .nfev
   within : b .counters .nfev ≤ b .limits .maxfev → m .counters .nfev ≤ b .limits .maxfev
 
+record Raised (b : Machine) (g j : ℕ) (m : Machine) : Type 0 where
+  terms : m .terms ≡ b .terms
+  limits : m .limits ≡ b .limits
+  charged : Charged b g j m
+
 module _ {b : Machine} (g : ℕ) {j : ℕ} where
   raised-ended : (t : Termination) (m : Machine) → Kept b j m → Raised b g j (ending t m)
-  raised-ended t m h = record {
-    terms = h .terms;
-    limits = h .limits;
-    values = omega arith;
-    notices = omega arith;
-    gradients = omega arith;
-    completed = h .completed;
-    drawn = omega arith;
-    within = λ l. omega arith;
-  }
+  raised-ended t m h = record { terms = h .terms; limits = h .limits; charged = omega arith }
 
   raised-asked : (p : Phase) (m : Machine) → kindOf p ≡ 1 → Kept b j m → valueLeft (m .limits) (m .counters) ≡ true → Raised b g j (asking p m)
   raised-asked p m e h left =
       let asks : (k : ℕ) → openOf k (asking p m) ≡ cond (eqb 1 k) 1 0 = λ k. ap (λ (i : ℕ). cond (eqb i k) 1 0) e in
-      record {
-        terms = h .terms;
-        limits = h .limits;
-        values = omega (arith, asks 1);
-        notices = omega (arith, asks 3);
-        gradients = omega (arith, asks 2);
-        completed = h .completed;
-        drawn = omega arith;
-        within = λ _. omega (arith, ltb-true (m .counters .nfev) (m .limits .maxfev) left, ap (λ (l : Limits). l .maxfev) (h .limits));
-      }
+      let below = ltb-true (m .counters .nfev) (m .limits .maxfev) left in
+      let budget = ap (λ (l : Limits). l .maxfev) (h .limits) in
+      record { terms = h .terms; limits = h .limits; charged = omega (arith, asks 1, asks 2, asks 3, below, budget) }
 
   raised-moved : (m : Machine) → Kept b j m → Raised b g j (move (learn m))
   unfolding move learn
-  raised-moved m h = record {
-    terms = h .terms;
-    limits = h .limits;
-    values = omega arith;
-    notices = omega arith;
-    gradients = omega arith;
-    completed = h .completed;
-    drawn = omega arith;
-    within = λ l. omega arith;
-  }
+  raised-moved m h = record { terms = h .terms; limits = h .limits; charged = omega arith }
 
   descends : Descends (Kept b j) (Raised b g j)
   descends = record {
@@ -134,12 +110,13 @@ replied kind Reply.goOn e = rw (eqb-true kind 3 e) (record { value = refl; gradi
 replied kind Reply.stop e = rw (eqb-true kind 3 e) (record { value = refl; gradient = refl; notice = refl })
 replied kind Reply.failure e = record { value = omega arith; gradient = omega arith; notice = omega arith }
 
+-- 1 where a phase asks a question of this kind
+abbrev pub opens : ℕ → Phase → ℕ
+opens kind p = cond (eqb (kindOf p) kind) 1 0
+
 -- while a value or a gradient is asked, an iteration is left
 abbrev Room : Machine → Type 0
 Room m = m .counters .nit + openOf 1 m + openOf 2 m ≤ m .limits .maxiter
-
-abbrev opens : ℕ → Phase → ℕ
-opens kind p = cond (eqb (kindOf p) kind) 1 0
 
 one-open : (p : Phase) → opens 1 p + opens 2 p + opens 3 p ≤ 1
 one-open (Phase.value w) = omega arith
@@ -164,22 +141,13 @@ answered-ended r t m h = record {
 
 -- on with an iteration left
 answered-on : {b : Machine} {r : Reply} (c : Bool) {m : Machine} → Raised b (cond (isValue r) 1 0) (cond c 1 0) m → (Room b → b .counters .nit + 1 ≤ b .limits .maxiter) → Answered b r c m
-answered-on c {m} h left = record { raised = h; room = λ o. omega (arith, left o, h .notices, one-open (m .phase), ap (λ (l : Limits). l .maxiter) (h .limits)) }
+answered-on c {m} h left = record { raised = h; room = λ o. omega (arith, left o, h .charged .notices, one-open (m .phase), ap (λ (l : Limits). l .maxiter) (h .limits)) }
 
 left-in : (b : Machine) {p : Phase} → b .phase ≡ p → opens 1 p + opens 2 p ≡ 1 → Room b → b .counters .nit + 1 ≤ b .limits .maxiter
 left-in b e one o = omega (arith, ap (opens 1) e, ap (opens 2) e)
 
 raised-gradient : {b : Machine} (w : Place) (m : Machine) → Kept b 0 m → Raised b 1 0 (inPhase (Phase.gradient w) m)
-raised-gradient w m h = record {
-  terms = h .terms;
-  limits = h .limits;
-  values = omega arith;
-  notices = omega arith;
-  gradients = omega arith;
-  completed = h .completed;
-  drawn = omega arith;
-  within = λ l. omega arith;
-}
+raised-gradient w m h = record { terms = h .terms; limits = h .limits; charged = omega arith }
 
 answered : {b : Machine} {r : Reply} {c : Bool} {m : Machine} → Turn b r c m → takes b r ≡ true → Answered b r c m
 answered {b} (Turn.value w v e q) d = answered-on false (raised-gradient w (valued w (toFloat v) b) (valued-kept w (toFloat v) b)) (left-in b e refl)
@@ -223,82 +191,54 @@ record Tally (s : Setup) (rs : List Reply) : Type 0 where
 
 tally : (s : Setup) (rs : List Reply) → Accepted s → Due s rs → Tally s rs
 unfolding run begin countOf failedOf gradientsCompleted
-tally s [] a d =
-    let l = accepted-in-limits s a in
-    record {
-      counted = record { values = refl; notices = refl; gradients = omega arith; completed = refl; drawn = refl; valueBudget = l .maxfev .0; noticeBudget = omega arith };
-      room = l .maxiter .0;
-    }
+tally s [] a d = let l = accepted-in-limits s a in record { counted = omega arith; room = l .maxiter .0 }
 tally s (r ∷ rs) a d =
     let m = run s rs in
     let h = tally s rs a (d .1) in
-    let t = due-taken m r (d .0) in
-    let o = answered (turn m r) t in
-    let n = o .raised in
-    let q = replied (kindOf (m .phase)) r t in
+    let taken = due-taken m r (d .0) in
+    let o = answered (turn m r) taken in
+    let n = o .raised .charged in
+    let q = replied (kindOf (m .phase)) r taken in
     let budget = ap (λ (l : Limits). l .maxfev) (limits-stay s rs (d .1)) in
-    record {
-      counted = record {
-        values = omega (arith, n .values, h .counted .values, q .value);
-        notices = omega (arith, n .notices, h .counted .notices, q .notice);
-        gradients = omega (arith, n .gradients, h .counted .gradients, q .gradient, q .value);
-        completed = omega (arith, n .completed, h .counted .completed);
-        drawn = omega (arith, n .drawn, h .counted .drawn);
-        valueBudget = omega (arith, n .within (omega (arith, h .counted .valueBudget, budget)), budget);
-        noticeBudget = omega (arith, o .room (h .room), ap (λ (l : Limits). l .maxiter) (limits-stay s (r ∷ rs) d));
-      };
-      room = o .room (h .room);
-    }
+    let iterations = ap (λ (l : Limits). l .maxiter) (limits-stay s (r ∷ rs) d) in
+    let within = n .within (omega (arith, h .counted .valueBudget, budget)) in
+    let room = o .room (h .room) in
+    record { counted = omega arith; room = room }
 
 pub counted : (s : Setup) (rs : List Reply) → Accepted s → Due s rs → Counted s rs
 counted s rs a d = tally s rs a d .counted
 
-none-failed : (kind : ℕ) (s : Setup) (rs : List Reply) → countOf isFailure rs ≡ 0 → failedOf kind s rs ≡ 0
-unfolding countOf failedOf
-none-failed kind s [] e = refl
-none-failed kind s (r ∷ rs) e = go (isFailure r) (none-failed kind s rs (omega arith)) e
-  where
-    go : (f : Bool) → failedOf kind s rs ≡ 0 → countOf isFailure rs + cond f 1 0 ≡ 0 → failedOf kind s rs + cond f (openOf kind (run s rs)) 0 ≡ 0
-    go true h e = absurd (omega arith)
-    go false h e = omega arith
-
--- a question that failed was open
-pub failed-open : (p : Phase) → suits (kindOf p) Reply.failure ≡ true → opens 1 p + opens 2 p + opens 3 p ≡ 1
+-- every failure came in place of a reply
+failed-open : (p : Phase) → suits (kindOf p) Reply.failure ≡ true → opens 1 p + opens 2 p + opens 3 p ≡ 1
 failed-open (Phase.value w) e = refl
 failed-open (Phase.gradient w) e = refl
 failed-open (Phase.probe w i side) e = refl
 failed-open Phase.notice e = refl
 failed-open (Phase.ended t) e = absurd (false≢true e)
 
--- every reply is of one kind, and every failure in place of one
-replies-of : (s : Setup) (rs : List Reply) → Due s rs
-    → length rs
-    ≡ (countOf isValue rs + failedOf 1 s rs) + (countOf isGradient rs + failedOf 2 s rs) + (countOf isNotice rs + failedOf 3 s rs)
-unfolding countOf failedOf
-replies-of s [] d = refl
-replies-of s (Reply.value v ∷ rs) d = omega (arith, replies-of s rs (d .1))
-replies-of s (Reply.gradient ws ∷ rs) d = omega (arith, replies-of s rs (d .1))
-replies-of s (Reply.notSupplied ∷ rs) d = omega (arith, replies-of s rs (d .1))
-replies-of s (Reply.goOn ∷ rs) d = omega (arith, replies-of s rs (d .1))
-replies-of s (Reply.stop ∷ rs) d = omega (arith, replies-of s rs (d .1))
-replies-of s (Reply.failure ∷ rs) d =
-    omega (arith, replies-of s rs (d .1), failed-open (run s rs .phase) (due-taken (run s rs) Reply.failure (d .0)))
+failure-open :
+    (m : Machine) (r : Reply) → takes m r ≡ true
+    → cond (isFailure r) 1 0 ≡ cond (isFailure r) (openOf 1 m) 0 + cond (isFailure r) (openOf 2 m) 0 + cond (isFailure r) (openOf 3 m) 0
+failure-open m (Reply.value v) e = refl
+failure-open m (Reply.gradient ws) e = refl
+failure-open m Reply.notSupplied e = refl
+failure-open m Reply.goOn e = refl
+failure-open m Reply.stop e = refl
+failure-open m Reply.failure e = omega (arith, failed-open (m .phase) e)
 
-closed : (m : Machine) (p : Phase) → opens 1 p + opens 2 p + opens 3 p ≡ 0 → questionIn m p ≡ none
-closed m (Phase.value w) e = absurd (omega arith)
-closed m (Phase.gradient w) e = absurd (omega arith)
-closed m (Phase.probe w i side) e = absurd (omega arith)
-closed m Phase.notice e = absurd (omega arith)
-closed m (Phase.ended t) e = refl
+pub failures : (s : Setup) (rs : List Reply) → Due s rs → countOf isFailure rs ≡ failedOf 1 s rs + failedOf 2 s rs + failedOf 3 s rs
+unfolding countOf failedOf
+failures s [] d = refl
+failures s (r ∷ rs) d = omega (arith, failures s rs (d .1), failure-open (run s rs) r (due-taken (run s rs) r (d .0)))
 
 -- ---- the theorems
 
 module _ (s : Setup) (rs : List Reply) (accepted : Accepted s) (due : Due s rs) where
   pub nfev-counts-values : countOf isFailure rs ≡ 0 → run s rs .counters .nfev ≡ countOf isValue rs + openOf 1 (run s rs)
-  nfev-counts-values e = omega (arith, counted s rs accepted due .values, none-failed 1 s rs e)
+  nfev-counts-values e = omega (arith, counted s rs accepted due .values, failures s rs due)
 
   pub nit-counts-notices : countOf isFailure rs ≡ 0 → run s rs .counters .nit ≡ countOf isNotice rs + openOf 3 (run s rs)
-  nit-counts-notices e = omega (arith, counted s rs accepted due .notices, none-failed 3 s rs e)
+  nit-counts-notices e = omega (arith, counted s rs accepted due .notices, failures s rs due)
 
   pub njev-counts-gradients : run s rs .counters .njev ≡ gradientsCompleted s rs
   njev-counts-gradients = counted s rs accepted due .completed
@@ -315,16 +255,3 @@ module _ (s : Setup) (rs : List Reply) (accepted : Accepted s) (due : Due s rs) 
   -- while a value or a gradient is asked, an iteration is left
   pub iteration-left : run s rs .counters .nit + openOf 1 (run s rs) + openOf 2 (run s rs) ≤ limitsOf s .maxiter
   iteration-left = omega (arith, tally s rs accepted due .room, ap (λ (l : Limits). l .maxiter) (limits-stay s rs due))
-
-  -- an open question counts as its reply
-  replies-and-question : length rs + openOf 1 (run s rs) + openOf 2 (run s rs) + openOf 3 (run s rs) ≤ 2 * limitsOf s .maxfev + limitsOf s .maxiter
-  replies-and-question = let h = counted s rs accepted due in omega (arith, replies-of s rs due, h .values, h .notices, h .gradients, h .valueBudget, h .noticeBudget)
-
-  pub replies-bounded : length rs ≤ 2 * limitsOf s .maxfev + limitsOf s .maxiter
-  replies-bounded = omega (arith, replies-and-question)
-
-  pub ended-with-most-replies : length rs ≡ 2 * limitsOf s .maxfev + limitsOf s .maxiter → question (run s rs) ≡ none
-  ended-with-most-replies e = closed (run s rs) (run s rs .phase) (omega (arith, replies-and-question))
-
-pub ended-is-final : (s : Setup) (rs : List Reply) (t : Termination) → run s rs .phase ≡ Phase.ended t → (r : Reply) → checkDue (run s rs) r ≡ refuse 13 0 0
-ended-is-final s rs t e r = rw (e, none-suits r)

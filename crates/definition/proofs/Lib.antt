@@ -4,5 +4,7 @@ pub mod Example
 pub mod Accepted
 pub mod Steps
 pub mod Counts
+pub mod Bound
 pub mod Statuses
 pub mod Sizes
+pub mod Words

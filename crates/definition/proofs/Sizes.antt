@@ -1,33 +1,29 @@
--- Sizes: every vector of the machine has n words at all times; how long the words of a setup, an entry and a log can be. Assumes nothing.
-use Prim.Native.Nat.{ℕ, zero, suc, _+_, _-_, _*_, _≤_, _<_}
+-- Sizes: every vector of the machine has n words at all times, there are at most maxcor pairs, and a search has at most 60 trials. Assumes nothing.
+use Prim.Native.Nat.{ℕ, zero, suc, _+_, _≤_}
 use native.Mathlib.Omega.{arith}
-use native.Mathlib.Nat.{mul-add, add-mul, mul-le-mul, mul-le-mul-left}
 use mathlib.Core.Path.{_≡_, refl, sym, ap, _∙_, subst}
 use mathlib.Core.Bool.{Bool, true, false, not, cond, _&&_, _||_, false≢true}
 use mathlib.Core.List.{List, [], _∷_, _++_, map}
 use mathlib.Core.Option.{Option, none, some}
-use lib.Dec.{T, eqb, leb, lit<, lit≤}
+use lib.Dec.{eqb, leb, lit≤}
 use lib.ListN.{length, drop, set, length-append, length-drop, length-set, length-map}
 use lib.Ieee as Ieee
-use lib.Ieee.{Float, binary64}
+use lib.Ieee.{Float}
 use lib.Ieee.Scale.{finite}
-use lib.Ieee.Bits.{toBits-lt}
-use borrow.Author.Tests.{leb-false, eqb-true, eqb-false, not-true, not-false}
-use Rattle.definition.specs.Number.{over, zero64, toFloat, toWord}
+use borrow.Author.Tests.{leb-false, eqb-true, eqb-false}
+use Rattle.definition.specs.Number.{over, zero64, toFloat}
 use Rattle.definition.specs.Vector.{tab, zeros, dot, difference}
-use Rattle.definition.specs.Problem.{Setup, Terms, Bounds, Scheme, dimension, maxcorOf, boundsOf, termsOf, limitsOf, projectedStart, orElse, openBounds, mostCoordinates, mostPairs, areaWords, areaNeeded}
+use Rattle.definition.specs.Problem.{Setup, Terms, Bounds, dimension, maxcorOf, termsOf, projectedStart}
 use Rattle.definition.specs.Compact.{Pair, Compact, noPairs, curved, usable, makeRoom, pushed, update}
 use Rattle.definition.specs.Gradient.{probesAt}
-use Rattle.definition.specs.Search.{Search, Limit, limitOf, firstSearch, withLimit, beginSearch, trialPoint, searchTrials, following, goesOn, lowAfter, highAfter, nextTrial, afterTrial}
-use Rattle.definition.specs.Machine.{Reply, State, Place, Phase, Machine, state, holding, trying, withCompact, heading, searching, checkDue}
+use Rattle.definition.specs.Search.{Search, limitOf, firstSearch, withLimit, beginSearch, trialPoint, searchTrials, following, goesOn, lowAfter, highAfter, afterTrial}
+use Rattle.definition.specs.Machine.{Reply, State, Place, Machine, state, holding, trying, withCompact, heading, searching, checkDue}
 use Rattle.definition.specs.Driver.{learn, move, withGradient, valued, begin, run}
-use Rattle.definition.specs.Log.{entryWords, logWords}
-use Rattle.definition.specs.Record.{optionalFloat, boxFlag, schemeFlag, boundWords, setupWords}
-use Rattle.definition.specs.Replies.{Accepted, Due, isValue, isNotice, countOf, openOf}
-use Rattle.definition.specs.Facts.{isGradient, failedOf, Each, StateSized, PairSized, SizedAs, Sized, Fits, IfGiven, BoundsFit, FloatsFit, IsWord}
-use Rattle.definition.proofs.Accepted.{accepted-in-limits, due-taken, due-length, tab-length}
-use Rattle.definition.proofs.Steps.{Turn, turn, gathered, started, aiming, Descends, descend-leads, Gathers, complete-leads, from-leads, probed-leads}
-use Rattle.definition.proofs.Counts.{terms-stay, counted, failed-open}
+use Rattle.definition.specs.Replies.{Accepted, Due}
+use Rattle.definition.specs.Facts.{Each, StateSized, PairSized, Sized}
+use Rattle.definition.proofs.Accepted.{accepted-in-limits, due-length, tab-length}
+use Rattle.definition.proofs.Steps.{Turn, turn, gathered, aiming, Descends, descend-leads, Gathers, complete-leads, from-leads, probed-leads}
+use Rattle.definition.proofs.Counts.{terms-stay}
 
 -- ---- the trials of a search
 
@@ -72,7 +68,7 @@ next-few s f v slope =
 -- ---- the pairs
 
 module _ {A : Type 0} (P : A → Type 0) where
-  each-append : (l r : List A) → Each P l → Each P r → Each P (l ++ r)
+  pub each-append : (l r : List A) → Each P l → Each P r → Each P (l ++ r)
   each-append [] r p q = q
   each-append (a ∷ l) r p q = (p .0, each-append l r (p .1) q)
 
@@ -230,107 +226,3 @@ bounds-sized s rs a d =
     let l = accepted-in-limits s a in
     let t = terms-stay s rs d in
     (ap (λ (k : Terms). length (k .bounds .lower)) t ∙ l .lower, ap (λ (k : Terms). length (k .bounds .upper)) t ∙ l .upper)
-
--- ---- the words of a setup
-
-each-word : (xs : List Float) → Each Fits xs → Each IsWord (map toWord xs)
-each-word [] h = tt
-each-word (x ∷ xs) h = (toBits-lt binary64 x (h .0), each-word xs (h .1))
-
-given-word : (o : Option Float) → IfGiven Fits o → IsWord (optionalFloat o)
-given-word none h = lit< tt
-given-word (some x) h = toBits-lt binary64 x h
-
-box-words : (o : Option Bounds) → IfGiven BoundsFit o → Each IsWord (boundWords o)
-box-words none h = tt
-box-words (some b) h = each-append IsWord (map toWord (b .lower)) (map toWord (b .upper)) (each-word (b .lower) (h .0)) (each-word (b .upper) (h .1))
-
--- a number that is given is at most what applies
-or-none : (k : Option ℕ) (default : ℕ) → orElse k 0 ≤ orElse k default
-or-none none default = omega arith
-or-none (some k) default = omega arith
-
-box-flag : (o : Option Bounds) → boxFlag o ≤ 1
-box-flag none = omega arith
-box-flag (some b) = omega arith
-
-scheme-flag : (c : Scheme) → schemeFlag c ≤ 2
-scheme-flag Scheme.forward = omega arith
-scheme-flag Scheme.central = omega arith
-
-pub setup-words-fit : (s : Setup) → Accepted s → FloatsFit s → Each IsWord (setupWords s)
-unfolding setupWords
-setup-words-fit s a f =
-    let l = accepted-in-limits s a in
-    (omega (arith, l .coordinates .1, l .pairs .1, or-none (s .maxcor) 10, box-flag (s .bounds), scheme-flag (s .scheme)),
-    (omega (arith, l .maxiter .1, or-none (s .maxiter) 15_000),
-    (omega (arith, l .maxfev .1, or-none (s .maxfev) 15_000),
-    (given-word (s .tol) (f .tol),
-    (given-word (s .ftol) (f .ftol),
-    (given-word (s .gtol) (f .gtol),
-    (given-word (s .eps) (f .eps),
-    each-append IsWord (map toWord (s .x0)) (boundWords (s .bounds)) (each-word (s .x0) (f .x0)) (box-words (s .bounds) (f .bounds)))))))))
-
-box-length :
-    (n : ℕ) (o : Option Bounds) → length (orElse o (openBounds n) .lower) ≡ n → length (orElse o (openBounds n) .upper) ≡ n
-    → length (boundWords o) ≡ boxFlag o * (2 * n)
-box-length n none p q = omega arith
-box-length n (some b) p q = omega (arith, length-append (map toWord (b .lower)) (map toWord (b .upper)), length-map (b .lower) toWord, length-map (b .upper) toWord)
-
-pub setup-length : (s : Setup) → Accepted s → length (setupWords s) ≡ 7 + dimension s + boxFlag (s .bounds) * (2 * dimension s)
-unfolding setupWords
-setup-length s a =
-    let l = accepted-in-limits s a in
-    omega (arith, length-append (map toWord (s .x0)) (boundWords (s .bounds)), length-map (s .x0) toWord, box-length (dimension s) (s .bounds) (l .lower) (l .upper))
-
-pub area-bounded : (s : Setup) → Accepted s → areaNeeded s ≤ areaWords mostCoordinates mostPairs
-area-bounded s a =
-    let l = accepted-in-limits s a in
-    let m = maxcorOf s in
-    let k : 4 * m + 16 ≤ 80 = omega (arith, l .pairs .1) in
-    let q : 4 * m ≤ 64 = omega (arith, l .pairs .1) in
-    omega (arith, mul-le-mul (l .coordinates .1) k, mul-le-mul q (l .pairs .1), l .pairs .1)
-
--- ---- the words of a log
-
-pub entry-length : (s : Setup) (r : Reply) (rs : List Reply) → Accepted s → Due s (r ∷ rs) → length (entryWords r) ≤ dimension s + 1
-entry-length s (Reply.value v) rs a d = omega (arith, accepted-in-limits s a .coordinates .0)
-entry-length s (Reply.gradient ws) rs a d = omega (arith, due-length (run s rs) ws (d .0), ap (λ (t : Terms). t .n) (terms-stay s rs (d .1)))
-entry-length s Reply.notSupplied rs a d = omega arith
-entry-length s Reply.goOn rs a d = omega arith
-entry-length s Reply.stop rs a d = omega arith
-entry-length s Reply.failure rs a d = omega arith
-
--- gradient replies and failed gradients, k words each: b and d of them more
-spread : (k a b c d : ℕ) → k * (a + b + (c + d)) ≡ k * (a + c) + k * b + k * d
-spread k a b c d = omega (arith, mul-add k (a + b) (c + d), mul-add k a b, mul-add k c d, mul-add k a c)
-
--- every reply costs the words of its question at most, and so does a failure
-module _ (s : Setup) where
-  log-of :
-      (rs : List Reply) → Due s rs
-      → length (logWords rs)
-      ≤ 2 * (countOf isValue rs + failedOf 1 s rs) + (dimension s + 1) * (countOf isGradient rs + failedOf 2 s rs) + (countOf isNotice rs + failedOf 3 s rs)
-  unfolding logWords countOf failedOf
-  log-of [] d = omega arith
-  log-of (Reply.value v ∷ rs) d =
-      omega (arith, log-of rs (d .1), length-append (logWords rs) (1 ∷ v ∷ []), spread (dimension s + 1) (countOf isGradient rs) 0 (failedOf 2 s rs) 0)
-  log-of (Reply.gradient ws ∷ rs) d =
-      omega (arith, log-of rs (d .1), length-append (logWords rs) (2 ∷ ws), spread (dimension s + 1) (countOf isGradient rs) 1 (failedOf 2 s rs) 0, due-length (run s rs) ws (d .0), ap (λ (t : Terms). t .n) (terms-stay s rs (d .1)))
-  log-of (Reply.notSupplied ∷ rs) d =
-      omega (arith, log-of rs (d .1), length-append (logWords rs) (3 ∷ []), spread (dimension s + 1) (countOf isGradient rs) 1 (failedOf 2 s rs) 0)
-  log-of (Reply.goOn ∷ rs) d =
-      omega (arith, log-of rs (d .1), length-append (logWords rs) (4 ∷ []), spread (dimension s + 1) (countOf isGradient rs) 0 (failedOf 2 s rs) 0)
-  log-of (Reply.stop ∷ rs) d =
-      omega (arith, log-of rs (d .1), length-append (logWords rs) (5 ∷ []), spread (dimension s + 1) (countOf isGradient rs) 0 (failedOf 2 s rs) 0)
-  log-of (Reply.failure ∷ rs) d =
-      let open2 = openOf 2 (run s rs) in
-      omega (arith, log-of rs (d .1), length-append (logWords rs) (6 ∷ []), spread (dimension s + 1) (countOf isGradient rs) 0 (failedOf 2 s rs) open2, add-mul (dimension s) 1 open2, failed-open (run s rs .phase) (due-taken (run s rs) Reply.failure (d .0)))
-
-pub log-length : (s : Setup) (rs : List Reply) → Accepted s → Due s rs → length (logWords rs) ≤ (3 + dimension s) * limitsOf s .maxfev + limitsOf s .maxiter
-log-length s rs a d =
-    let h = counted s rs a d in
-    let k = dimension s + 1 in
-    let f = limitsOf s .maxfev in
-    let gradients : countOf isGradient rs + failedOf 2 s rs ≤ f = omega (arith, h .gradients, h .values, h .valueBudget) in
-    omega (arith, log-of s rs d, mul-le-mul-left k gradients, add-mul 3 (dimension s) f, add-mul (dimension s) 1 f, h .values, h .notices, h .valueBudget, h .noticeBudget)

@@ -1,5 +1,5 @@
 -- What each status says: the situation that it names, and for six of the eight that situation alone. Assumes nothing.
-use Prim.Native.Nat.{ℕ, zero, suc, _+_, _≤_, _<_}
+use Prim.Native.Nat.{ℕ, _≤_, _<_}
 use native.Mathlib.Omega.{arith}
 use mathlib.Core.Path.{_≡_, refl, sym, ap, _∙_, subst}
 use mathlib.Core.Bool.{Bool, true, false, cond, true≢false, false≢true}
@@ -11,15 +11,15 @@ use borrow.Author.Tests.{ltb-true, ltb-false, leb-true, leb-false, eq-eqb, ne-eq
 use Rattle.definition.specs.Number.{toFloat}
 use Rattle.definition.specs.Vector.{zeros}
 use Rattle.definition.specs.Problem.{Setup, Limits, limitsOf}
-use Rattle.definition.specs.Counters.{Termination, Counters, valueLeft, iterationsSpent, chargeValue}
+use Rattle.definition.specs.Counters.{Termination, Counters, valueLeft, iterationsSpent}
 use Rattle.definition.specs.Gradient.{probesAt}
-use Rattle.definition.specs.Machine.{Reply, Place, Phase, Machine, inPhase, counting, withRight, ending, kindOf, suits, takes}
+use Rattle.definition.specs.Machine.{Reply, Place, Phase, Machine, inPhase, withRight, ending, kindOf, suits, takes}
 use Rattle.definition.specs.Driver.{gradientSmall, decreaseSmall, descend, learn, move, withGradient, valued, begin, run}
-use Rattle.definition.specs.Replies.{Accepted, Due, openOf}
+use Rattle.definition.specs.Replies.{Accepted, Due}
 use Rattle.definition.specs.Facts.{completesGradient, gradientFinite, Tested, Nonfinite, Situation, exact}
 use Rattle.definition.proofs.Accepted.{accepted-in-limits, due-taken}
 use Rattle.definition.proofs.Steps.{Turn, turn, asking, gathered, started, Descends, descend-leads, Gathers, complete-leads, from-leads, probed-leads}
-use Rattle.definition.proofs.Counts.{limits-stay, nfev-within-budget, nit-within-budget, iteration-left}
+use Rattle.definition.proofs.Counts.{limits-stay, nfev-within-budget, nit-within-budget}
 
 -- ---- what is known while a fit runs
 

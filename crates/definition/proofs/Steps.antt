@@ -8,7 +8,7 @@ use lib.Dec.{eqb}
 use lib.Ieee.{Float}
 use lib.Ieee.Scale.{finite}
 use Rattle.definition.specs.Number.{toFloat, zero64}
-use Rattle.definition.specs.Vector.{word, zeros, dot, difference, allFinite}
+use Rattle.definition.specs.Vector.{word, zeros, dot, difference}
 use Rattle.definition.specs.Compact.{noPairs, count}
 use Rattle.definition.specs.Counters.{Termination, valueLeft, iterationsSpent, chargeValue, chargeGradient}
 use Rattle.definition.specs.Gradient.{Probes, probesAt, bothQuotient, rightQuotient, leftQuotient}
