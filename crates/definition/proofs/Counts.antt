@@ -58,9 +58,8 @@ module _ {b : Machine} (g : ℕ) {j : ℕ} where
   raised-asked : (p : Phase) (m : Machine) → kindOf p ≡ 1 → Kept b j m → valueLeft (m .limits) (m .counters) ≡ true → Raised b g j (asking p m)
   raised-asked p m e h left =
       let asks : (k : ℕ) → openOf k (asking p m) ≡ cond (eqb 1 k) 1 0 = λ k. ap (λ (i : ℕ). cond (eqb i k) 1 0) e in
-      let below = ltb-true (m .counters .nfev) (m .limits .maxfev) left in
       let budget = ap (λ (l : Limits). l .maxfev) (h .limits) in
-      record { terms = h .terms; limits = h .limits; charged = omega (arith, asks 1, asks 2, asks 3, below, budget) }
+      record { terms = h .terms; limits = h .limits; charged = omega (arith, asks 1, asks 2, asks 3, ltb-true, budget) }
 
   raised-moved : (m : Machine) → Kept b j m → Raised b g j (move (learn m))
   unfolding move learn
@@ -163,7 +162,7 @@ answered {b} (Turn.spent e p) d = answered-ended Reply.goOn Termination.maxItera
 answered {b} (Turn.small e p q) d = answered-ended Reply.goOn Termination.gtol b (kept b)
 answered {b} (Turn.level e p q k) d = answered-ended Reply.goOn Termination.ftol b (kept b)
 answered {b} (Turn.onward e p q k) d =
-    answered-on false (descend-leads (descends 0) b (kept b)) (λ _. omega (arith, leb-false (b .limits .maxiter) (b .counters .nit) p))
+    answered-on false (descend-leads (descends 0) b (kept b)) (λ _. omega (arith, leb-false))
 answered {b} (Turn.stops e) d = answered-ended Reply.stop Termination.cancelled b (kept b)
 answered {b} (Turn.fails e) d = answered-ended Reply.failure Termination.objectiveFailed b (kept b)
 answered (Turn.unmoved r c e) d = absurd (false≢true (sym e ∙ d))

@@ -2,10 +2,10 @@
 use Prim.Native.Nat.{ℕ, zero, suc, _+_, _≤_}
 use native.Mathlib.Omega.{arith}
 use mathlib.Core.Path.{_≡_, refl, sym, ap, _∙_, subst}
-use mathlib.Core.Bool.{Bool, true, false, not, cond, _&&_, _||_, false≢true}
+use mathlib.Core.Bool.{Bool, true, false, not, _&&_, _||_, false≢true}
 use mathlib.Core.List.{List, [], _∷_, _++_, map}
 use mathlib.Core.Option.{Option, none, some}
-use lib.Dec.{eqb, leb, lit≤}
+use lib.Dec.{eqb, lit≤}
 use lib.ListN.{length, drop, set, length-append, length-drop, length-set, length-map}
 use lib.Ieee as Ieee
 use lib.Ieee.{Float}
@@ -14,15 +14,15 @@ use borrow.Author.Tests.{leb-false, eqb-true, eqb-false}
 use Rattle.definition.specs.Number.{over, zero64, toFloat}
 use Rattle.definition.specs.Vector.{tab, zeros, dot, difference}
 use Rattle.definition.specs.Problem.{Setup, Terms, Bounds, dimension, maxcorOf, termsOf, projectedStart}
-use Rattle.definition.specs.Compact.{Pair, Compact, noPairs, curved, usable, makeRoom, pushed, update}
+use Rattle.definition.specs.Compact.{Pair, Compact, noPairs, curved, usable, makeRoom, update}
 use Rattle.definition.specs.Gradient.{probesAt}
-use Rattle.definition.specs.Search.{Search, limitOf, firstSearch, withLimit, beginSearch, trialPoint, searchTrials, following, goesOn, lowAfter, highAfter, afterTrial}
+use Rattle.definition.specs.Search.{Search, limitOf, beginSearch, trialPoint, searchTrials, following, goesOn, lowAfter, highAfter, afterTrial}
 use Rattle.definition.specs.Machine.{Reply, State, Place, Machine, state, holding, trying, withCompact, heading, searching, checkDue}
 use Rattle.definition.specs.Driver.{learn, move, withGradient, valued, begin, run}
 use Rattle.definition.specs.Replies.{Accepted, Due}
-use Rattle.definition.specs.Facts.{Each, StateSized, PairSized, Sized}
+use Rattle.definition.specs.Facts.{Each, StateSized, PairSized, PairsSized, Sized}
 use Rattle.definition.proofs.Accepted.{accepted-in-limits, due-length, tab-length}
-use Rattle.definition.proofs.Steps.{Turn, turn, gathered, aiming, Descends, descend-leads, Gathers, complete-leads, from-leads, probed-leads}
+use Rattle.definition.proofs.Steps.{Turn, turn, by-test, gathered, aiming, Descends, descend-leads, Gathers, complete-leads, from-leads, probed-leads}
 use Rattle.definition.proofs.Counts.{terms-stay}
 
 -- ---- the trials of a search
@@ -31,11 +31,6 @@ use Rattle.definition.proofs.Counts.{terms-stay}
 Few : Option Search → Type 0
 Few none = Unit {0}
 Few (some r) = r .trials ≤ searchTrials
-
-few-cond : (t : Bool) (o : Option Search) → (t ≡ true → Few o) → Few (cond t o none)
-unfolding Few
-few-cond true o h = h refl
-few-cond false o h = tt
 
 few-at : (o : Option Search) (r : Search) → Few o → o ≡ some r → r .trials ≤ searchTrials
 unfolding Few
@@ -46,8 +41,7 @@ unfolding Few beginSearch
 begun-few n b x g d =
     let slope0 = dot n g d in
     let l = limitOf n b x d in
-    few-cond (finite slope0 && Ieee.lt slope0 zero64) (withLimit slope0 l)
-    (λ _. few-cond (finite (l .amax) && Ieee.lt zero64 (l .amax)) (some (firstSearch slope0 l)) (λ _. lit≤ tt))
+    by-test Few (finite slope0 && Ieee.lt slope0 zero64) (λ _. by-test Few (finite (l .amax) && Ieee.lt zero64 (l .amax)) (λ _. lit≤ tt) (λ _. tt)) (λ _. tt)
 
 -- a search that goes on is below its last trial
 goes-on : (a b c : Bool) → not (a || b || c) ≡ true → c ≡ false
@@ -62,8 +56,9 @@ next-few s f v slope =
     let low = lowAfter s f v slope in
     let high = highAfter s f v slope in
     let next = following s low high in
-    few-cond (goesOn s next) (some (record { alpha = next; low = low; high = high; slope0 = s .slope0; amax = s .amax; face = s .face; trials = s .trials + 1 }))
-    (λ e. omega (arith, leb-false searchTrials (s .trials) (goes-on (Ieee.eq next (s .alpha)) (Ieee.eq next zero64) (leb searchTrials (s .trials)) e)))
+    by-test Few (goesOn s next)
+    (λ e. let q = goes-on (Ieee.eq next (s .alpha)) (Ieee.eq next zero64) _ e in omega (arith, leb-false))
+    (λ _. tt)
 
 -- ---- the pairs
 
@@ -77,34 +72,28 @@ module _ {A : Type 0} (P : A → Type 0) where
   each-drop (suc k) [] p = tt
   each-drop (suc k) (a ∷ l) p = each-drop k l (p .1)
 
-record PairsAs (n maxcor : ℕ) (ps : List Pair) : Type 0 where
-  few : length ps ≤ maxcor
-  words : Each (PairSized n) ps
-
 -- room for one more
-room-made : (n maxcor : ℕ) (ps : List Pair) → 1 ≤ maxcor → PairsAs n maxcor ps → (length (makeRoom maxcor ps) + 1 ≤ maxcor) × Each (PairSized n) (makeRoom maxcor ps)
-room-made n maxcor ps one h = go (eqb (length ps) maxcor) refl
-  where
-    go : (t : Bool) → eqb (length ps) maxcor ≡ t → (length (cond t (drop 1 ps) ps) + 1 ≤ maxcor) × Each (PairSized n) (cond t (drop 1 ps) ps)
-    go true e = (omega (arith, length-drop 1 ps, eqb-true (length ps) maxcor e), each-drop (PairSized n) 1 ps (h .words))
-    go false e = (omega (arith, h .few, eqb-false (length ps) maxcor e), h .words)
+Roomy : ℕ → ℕ → List Pair → Type 0
+Roomy n maxcor ps = (length ps + 1 ≤ maxcor) × Each (PairSized n) ps
 
-pairs-cond : {n maxcor : ℕ} (t : Bool) (c d : Compact) → PairsAs n maxcor (c .pairs) → PairsAs n maxcor (d .pairs) → PairsAs n maxcor (cond t c d .pairs)
-pairs-cond true c d p q = p
-pairs-cond false c d p q = q
+room-made : (n maxcor : ℕ) (ps : List Pair) → 1 ≤ maxcor → PairsSized n maxcor ps → Roomy n maxcor (makeRoom maxcor ps)
+unfolding Roomy
+room-made n maxcor ps one h =
+    by-test (Roomy n maxcor) (eqb (length ps) maxcor)
+    (λ e. (omega (arith, length-drop 1 ps, eqb-true), each-drop (PairSized n) 1 ps (h .words)))
+    (λ e. (omega (arith, h .few, eqb-false), h .words))
 
 updated-pairs :
-    (n maxcor : ℕ) (c : Compact) (s y : List Float) → 1 ≤ maxcor → length s ≡ n → length y ≡ n → PairsAs n maxcor (c .pairs)
-    → PairsAs n maxcor (update n maxcor c s y .pairs)
-unfolding update
+    (n maxcor : ℕ) (c : Compact) (s y : List Float) → 1 ≤ maxcor → length s ≡ n → length y ≡ n → PairsSized n maxcor (c .pairs)
+    → PairsSized n maxcor (update n maxcor c s y .pairs)
+unfolding update Roomy
 updated-pairs n maxcor c s y one p q h =
+    let old = makeRoom maxcor (c .pairs) in
+    let new : Pair = record { s = s; y = y } in
     let room = room-made n maxcor (c .pairs) one h in
-    let sy = dot n s y in
-    let yy = dot n y y in
-    let theta = over yy sy in
-    pairs-cond (curved sy yy && usable theta) (pushed maxcor c (record { s = s; y = y }) theta) c
-    (record { few = omega (arith, length-append (makeRoom maxcor (c .pairs)) (record { s = s; y = y } ∷ []), room .0); words = each-append (PairSized n) (makeRoom maxcor (c .pairs)) _ (room .1) ((p, q), tt) })
-    h
+    by-test (λ (k : Compact). PairsSized n maxcor (k .pairs)) (curved (dot n s y) (dot n y y) && usable (over (dot n y y) (dot n s y)))
+    (λ _. record { few = omega (arith, length-append old (new ∷ []), room .0); words = each-append (PairSized n) old (new ∷ []) (room .1) ((p, q), tt) })
+    (λ _. h)
 
 -- ---- the machine
 
@@ -114,6 +103,9 @@ learnt t m =
     update (t .n) (t .maxcor) (m .compact) (difference (t .n) (m .trial .x) (m .held .x)) (difference (t .n) (m .trial .g) (m .held .g))
 
 module _ (s : Setup) (one : 1 ≤ maxcorOf s) where
+  no-pairs : PairsSized (dimension s) (maxcorOf s) []
+  no-pairs = record { few = omega arith; words = tt }
+
   abbrev Keeps : Machine → Type 0
   Keeps m = (m .terms ≡ termsOf s) × Sized s m
 
@@ -127,22 +119,22 @@ module _ (s : Setup) (one : 1 ≤ maxcorOf s) where
   turned : (m : Machine) (d : List Float) → length d ≡ dimension s → Keeps m → Keeps (heading d m)
   turned m d l h =
       let z = h .1 in
-      (h .0, record { heldWords = z .heldWords; trialWords = z .trialWords; directionWords = l; fewPairs = z .fewPairs; pairWords = z .pairWords; fewTrials = z .fewTrials })
+      (h .0, record { heldWords = z .heldWords; trialWords = z .trialWords; directionWords = l; pairWords = z .pairWords; fewTrials = z .fewTrials })
 
   regarded : (m : Machine) (t : State) (r : Search) → StateSized (dimension s) t → r .trials ≤ searchTrials → Keeps m → Keeps (searching r (trying t m))
   regarded m t r l k h =
       let z = h .1 in
-      (h .0, record { heldWords = z .heldWords; trialWords = l; directionWords = z .directionWords; fewPairs = z .fewPairs; pairWords = z .pairWords; fewTrials = k })
+      (h .0, record { heldWords = z .heldWords; trialWords = l; directionWords = z .directionWords; pairWords = z .pairWords; fewTrials = k })
 
   held : (m : Machine) (t : State) → StateSized (dimension s) t → Keeps m → Keeps (holding t m)
   held m t l h =
       let z = h .1 in
-      (h .0, record { heldWords = l; trialWords = z .trialWords; directionWords = z .directionWords; fewPairs = z .fewPairs; pairWords = z .pairWords; fewTrials = z .fewTrials })
+      (h .0, record { heldWords = l; trialWords = z .trialWords; directionWords = z .directionWords; pairWords = z .pairWords; fewTrials = z .fewTrials })
 
-  paired : (m : Machine) (c : Compact) → PairsAs (dimension s) (maxcorOf s) (c .pairs) → Keeps m → Keeps (withCompact c m)
+  paired : (m : Machine) (c : Compact) → PairsSized (dimension s) (maxcorOf s) (c .pairs) → Keeps m → Keeps (withCompact c m)
   paired m c p h =
       let z = h .1 in
-      (h .0, record { heldWords = z .heldWords; trialWords = z .trialWords; directionWords = z .directionWords; fewPairs = p .few; pairWords = p .words; fewTrials = z .fewTrials })
+      (h .0, record { heldWords = z .heldWords; trialWords = z .trialWords; directionWords = z .directionWords; pairWords = p; fewTrials = z .fewTrials })
 
   aimed : (m : Machine) (o : Option Search) (r : Search) → Few o → o ≡ some r → Keeps m → Keeps (aiming r m)
   unfolding trialPoint
@@ -154,12 +146,12 @@ module _ (s : Setup) (one : 1 ≤ maxcorOf s) where
   learned : (m : Machine) → Keeps m → Keeps (learn m)
   unfolding learn
   learned m h =
-      let pairs = updated-pairs (dimension s) (maxcorOf s) (m .compact) _ _ one (tab-length (dimension s) _) (tab-length (dimension s) _) (record { few = h .1 .fewPairs; words = h .1 .pairWords }) in
-      paired m (learnt (m .terms) m) (subst (λ (t : Terms). PairsAs (dimension s) (maxcorOf s) (learnt t m .pairs)) (sym (h .0)) pairs) h
+      let pairs = updated-pairs (dimension s) (maxcorOf s) (m .compact) _ _ one (tab-length (dimension s) _) (tab-length (dimension s) _) (h .1 .pairWords) in
+      paired m (learnt (m .terms) m) (subst (λ (t : Terms). PairsSized (dimension s) (maxcorOf s) (learnt t m .pairs)) (sym (h .0)) pairs) h
 
   descends : Descends Keeps Keeps
   descends = record {
-    bare = λ m h. paired m noPairs (record { few = omega arith; words = tt }) h;
+    bare = λ m h. paired m noPairs no-pairs h;
     headed = λ m e h. turned m _ (n-words m _ h) h;
     begun = λ m r h e. aimed m _ r (begun-few (m .terms .n) (m .terms .bounds) (m .held .x) (m .held .g) (m .direction)) e h;
     failed = λ m h. h;
@@ -212,7 +204,7 @@ module _ (s : Setup) (one : 1 ≤ maxcorOf s) where
   kept-all [] d =
       let x = tab-length (dimension s) _ in
       let g = tab-length (dimension s) _ in
-      (refl, record { heldWords = (x, g); trialWords = (x, g); directionWords = g; fewPairs = omega arith; pairWords = tt; fewTrials = omega arith })
+      (refl, record { heldWords = (x, g); trialWords = (x, g); directionWords = g; pairWords = no-pairs; fewTrials = omega arith })
   kept-all (r ∷ rs) d = kept (turn (run s rs) r) (d .0) (kept-all rs (d .1))
 
 -- ---- the theorems

@@ -14,7 +14,7 @@ use Rattle.definition.specs.Problem.{Setup, Limits, limitsOf}
 use Rattle.definition.specs.Counters.{Termination, Counters, valueLeft, iterationsSpent}
 use Rattle.definition.specs.Gradient.{probesAt}
 use Rattle.definition.specs.Machine.{Reply, Place, Phase, Machine, inPhase, withRight, ending, kindOf, suits, takes}
-use Rattle.definition.specs.Driver.{gradientSmall, decreaseSmall, descend, learn, move, withGradient, valued, begin, run}
+use Rattle.definition.specs.Driver.{answer, gradientSmall, decreaseSmall, descend, learn, move, withGradient, valued, begin, run}
 use Rattle.definition.specs.Replies.{Accepted, Due}
 use Rattle.definition.specs.Facts.{completesGradient, gradientFinite, Tested, Nonfinite, Situation, exact}
 use Rattle.definition.proofs.Accepted.{accepted-in-limits, due-taken}
@@ -62,10 +62,10 @@ known-value Place.trial v m h = h
 
 steep-asked : (p : Phase) (m : Machine) → Steep m → valueLeft (m .limits) (m .counters) ≡ true → Steep (asking p m)
 unfolding gradientSmall decreaseSmall
-steep-asked p m h e = record { some = h .some; steep = h .steep; falling = h .falling; left = h .left; within = omega (arith, ltb-true (m .counters .nfev) (m .limits .maxfev) e) }
+steep-asked p m h e = record { some = h .some; steep = h .steep; falling = h .falling; left = h .left; within = omega (arith, ltb-true) }
 
 known-asked : (w : Place) (p : Phase) (m : Machine) → Known w m → valueLeft (m .limits) (m .counters) ≡ true → Known w (asking p m)
-known-asked Place.start p m h e = record { none = h .none; first = h .first; left = h .left; within = omega (arith, ltb-true (m .counters .nfev) (m .limits .maxfev) e) }
+known-asked Place.start p m h e = record { none = h .none; first = h .first; left = h .left; within = omega (arith, ltb-true) }
 known-asked Place.trial p m h e = steep-asked p m h e
 
 -- ---- what is told at a question or at the end
@@ -98,7 +98,7 @@ sought m h t = record {
 }
 
 spent-values : (m : Machine) → m .counters .nfev ≤ m .limits .maxfev → valueLeft (m .limits) (m .counters) ≡ false → m .counters .nfev ≡ m .limits .maxfev
-spent-values m h e = omega (arith, ltb-false (m .counters .nfev) (m .limits .maxfev) e)
+spent-values m h e = omega (arith, ltb-false)
 
 spent-known : (w : Place) (m : Machine) → Known w m → valueLeft (m .limits) (m .counters) ≡ false
     → (m .counters .nfev ≡ m .limits .maxfev) × (m .counters .nit < m .limits .maxiter)
@@ -186,11 +186,11 @@ meets {b} (Turn.supplied w ws e) d h =
 meets {b} (Turn.differenced w e) d h =
     let g = zeros (b .terms .n) in
     from-leads (gathers Reply.notSupplied) (b .terms .n) w 0 (withGradient g b) (known-gradient w g b (in-phase b h e))
-meets {b} (Turn.spent e p) d h = no-gradient _ (refl, omega (arith, h .iterations, leb-true (b .limits .maxiter) (b .counters .nit) p))
-meets {b} (Turn.small e p q) d h = no-gradient _ (Tested.onGoOn refl (leb-false (b .limits .maxiter) (b .counters .nit) p), q)
-meets {b} (Turn.level e p q k) d h = no-gradient _ (refl, leb-false (b .limits .maxiter) (b .counters .nit) p, q, k)
+meets {b} (Turn.spent e p) d h = no-gradient _ (refl, omega (arith, leb-true))
+meets {b} (Turn.small e p q) d h = no-gradient _ (Tested.onGoOn refl (omega (arith, leb-false)), q)
+meets {b} (Turn.level e p q k) d h = no-gradient _ (refl, omega (arith, leb-false), q, k)
 meets {b} (Turn.onward e p q k) d h =
-    let steep : Steep b = record { some = in-phase b h e; steep = q; falling = λ _. k; left = leb-false (b .limits .maxiter) (b .counters .nit) p; within = h .values } in
+    let steep : Steep b = record { some = in-phase b h e; steep = q; falling = λ _. k; left = omega (arith, leb-false); within = h .values } in
     descend-leads (descends Reply.goOn false) b (steep, λ f. absurd (false≢true f))
 meets {b} (Turn.stops e) d h = no-gradient _ refl
 meets {b} (Turn.fails e) d h = no-gradient _ refl
@@ -217,58 +217,35 @@ stands s (r ∷ rs) a d =
       values = omega (arith, nfev-within-budget s (r ∷ rs) a d, ap (λ (k : Limits). k .maxfev) l);
     }
 
--- ---- the other way
-
-stop-ends : {b : Machine} {c : Bool} {m : Machine} → Turn b Reply.stop c m → takes b Reply.stop ≡ true → m .phase ≡ Phase.ended Termination.cancelled
-stop-ends (Turn.stops e) d = refl
-stop-ends (Turn.unmoved r c e) d = absurd (false≢true (sym e ∙ d))
-
-failure-ends : {b : Machine} {c : Bool} {m : Machine} → Turn b Reply.failure c m → takes b Reply.failure ≡ true → m .phase ≡ Phase.ended Termination.objectiveFailed
-failure-ends (Turn.fails e) d = refl
-failure-ends (Turn.unmoved r c e) d = absurd (false≢true (sym e ∙ d))
-
-value-ends :
-    {b : Machine} {c : Bool} {m : Machine} (v : ℕ) → Turn b (Reply.value v) c m → takes b (Reply.value v) ≡ true → finite (toFloat v) ≡ false
-    → m .phase ≡ Phase.ended Termination.nonfinite
-value-ends v (Turn.value w u e q) d f = absurd (true≢false (sym q ∙ f))
-value-ends v (Turn.nonfinite w u e q) d f = refl
-value-ends v (Turn.probe w i side u e q) d f = absurd (true≢false (sym q ∙ f))
-value-ends v (Turn.nonfiniteProbe w i side u e q) d f = refl
-value-ends v (Turn.unmoved r c e) d f = absurd (false≢true (sym e ∙ d))
+-- ---- the other way: what a due reply in a situation leads to
 
 -- where go on leads, by the tests in their order
-abbrev ordered : Bool → Machine → Machine
-ordered spent m =
-    cond spent (ending Termination.maxIterations m)
-    (cond (gradientSmall m) (ending Termination.gtol m)
-    (cond (decreaseSmall m) (ending Termination.ftol m)
-    (descend m)))
+abbrev ordered : Bool → Bool → Bool → Machine → Machine
+ordered spent small level m =
+    cond spent (ending Termination.maxIterations m) (cond small (ending Termination.gtol m) (cond level (ending Termination.ftol m) (descend m)))
 
-below : (m : Machine) → m .counters .nit < m .limits .maxiter → eqb (m .counters .nit) (m .limits .maxiter) ≡ false
-below m l = ne-eqb (m .counters .nit) (m .limits .maxiter) (λ (e : m .counters .nit ≡ m .limits .maxiter). omega arith)
+abbrev atBudget : Machine → Bool
+atBudget m = eqb (m .counters .nit) (m .limits .maxiter)
 
-unspent : (m : Machine) → iterationsSpent (m .limits) (m .counters) ≡ false → eqb (m .counters .nit) (m .limits .maxiter) ≡ false
-unspent m p = below m (leb-false (m .limits .maxiter) (m .counters .nit) p)
+below-budget : (m : Machine) → m .counters .nit < m .limits .maxiter → atBudget m ≡ false
+below-budget m l = ne-eqb (m .counters .nit) (m .limits .maxiter) (λ (e : m .counters .nit ≡ m .limits .maxiter). omega arith)
 
-go-on-leads :
-    {b : Machine} {c : Bool} {m : Machine} → Turn b Reply.goOn c m → takes b Reply.goOn ≡ true → b .counters .nit ≤ b .limits .maxiter
-    → m ≡ ordered (eqb (b .counters .nit) (b .limits .maxiter)) b
-go-on-leads {b} (Turn.spent e p) d h = rw (eq-eqb (b .counters .nit) (b .limits .maxiter) (omega (arith, leb-true (b .limits .maxiter) (b .counters .nit) p)))
-go-on-leads {b} (Turn.small e p q) d h = rw (unspent b p, q)
-go-on-leads {b} (Turn.level e p q k) d h = rw (unspent b p, q, k)
-go-on-leads {b} (Turn.onward e p q k) d h = rw (unspent b p, q, k)
-go-on-leads (Turn.unmoved r c e) d h = absurd (false≢true (sym e ∙ d))
+unspent : (m : Machine) → iterationsSpent (m .limits) (m .counters) ≡ false → atBudget m ≡ false
+unspent m p = below-budget m (omega (arith, leb-false))
 
 -- go on leaves what the tests look at
 abbrev Same : Machine → Machine → Type 0
-Same b m =
-    (eqb (m .counters .nit) (m .limits .maxiter) ≡ eqb (b .counters .nit) (b .limits .maxiter))
-    × (gradientSmall m ≡ gradientSmall b)
-    × (decreaseSmall m ≡ decreaseSmall b)
+Same b m = (atBudget m ≡ atBudget b) × (gradientSmall m ≡ gradientSmall b) × (decreaseSmall m ≡ decreaseSmall b)
 
 descends-same : (b : Machine) → Descends (Same b) (Same b)
 unfolding gradientSmall decreaseSmall
 descends-same b = record { bare = λ m h. h; headed = λ m e h. h; begun = λ m r h e. h; failed = λ m h. h; spent = λ m h e. h; asked = λ m h e. h }
+
+-- a due reply, and the step that it makes
+record Taken (b : Machine) (r : Reply) (c : Bool) (m : Machine) : Type 0 where
+  step : Turn b r c m
+  due : takes b r ≡ true
+  iterations : b .counters .nit ≤ b .limits .maxiter
 
 same : {b : Machine} {c : Bool} {m : Machine} → Turn b Reply.goOn c m → Same b m
 unfolding gradientSmall decreaseSmall
@@ -278,58 +255,72 @@ same (Turn.level e p q k) = (refl, refl, refl)
 same {b} (Turn.onward e p q k) = descend-leads (descends-same b) b (refl, refl, refl)
 same (Turn.unmoved r c e) = (refl, refl, refl)
 
--- a due reply, and the step that it makes
-abbrev Taken : Machine → Reply → Bool → Machine → Type 0
-Taken b r c m = Turn b r c m × (takes b r ≡ true) × (b .counters .nit ≤ b .limits .maxiter)
+go-on-leads :
+    {b : Machine} {c : Bool} {m : Machine} → Turn b Reply.goOn c m → takes b Reply.goOn ≡ true → b .counters .nit ≤ b .limits .maxiter
+    → m ≡ ordered (atBudget b) (gradientSmall b) (decreaseSmall b) b
+go-on-leads {b} (Turn.spent e p) d h = rw (eq-eqb (b .counters .nit) (b .limits .maxiter) (omega (arith, leb-true)))
+go-on-leads {b} (Turn.small e p q) d h = rw (unspent b p, q)
+go-on-leads {b} (Turn.level e p q k) d h = rw (unspent b p, q, k)
+go-on-leads {b} (Turn.onward e p q k) d h = rw (unspent b p, q, k)
+go-on-leads (Turn.unmoved r c e) d h = absurd (false≢true (sym e ∙ d))
+
+stop-leads : {b : Machine} {c : Bool} {m : Machine} → Turn b Reply.stop c m → takes b Reply.stop ≡ true → m ≡ ending Termination.cancelled b
+stop-leads (Turn.stops e) d = refl
+stop-leads (Turn.unmoved r c e) d = absurd (false≢true (sym e ∙ d))
+
+failure-leads : {b : Machine} {c : Bool} {m : Machine} → Turn b Reply.failure c m → takes b Reply.failure ≡ true → m ≡ ending Termination.objectiveFailed b
+failure-leads (Turn.fails e) d = refl
+failure-leads (Turn.unmoved r c e) d = absurd (false≢true (sym e ∙ d))
+
+value-leads :
+    {b : Machine} {c : Bool} {m : Machine} (v : ℕ) → Turn b (Reply.value v) c m → takes b (Reply.value v) ≡ true → finite (toFloat v) ≡ false
+    → m .phase ≡ Phase.ended Termination.nonfinite
+value-leads v (Turn.value w u e q) d f = absurd (true≢false (sym q ∙ f))
+value-leads v (Turn.nonfinite w u e q) d f = refl
+value-leads v (Turn.probe w i side u e q) d f = absurd (true≢false (sym q ∙ f))
+value-leads v (Turn.nonfiniteProbe w i side u e q) d f = refl
+value-leads v (Turn.unmoved r c e) d f = absurd (false≢true (sym e ∙ d))
 
 phase-of : {t : Termination} (m b : Machine) → m ≡ ending t b → m .phase ≡ Phase.ended t
 phase-of m b e = ap (λ (x : Machine). x .phase) e
 
 module _ {b : Machine} {c : Bool} {m : Machine} where
-  go-on-spent : Taken b Reply.goOn c m → m .counters .nit ≡ m .limits .maxiter → m .phase ≡ Phase.ended Termination.maxIterations
-  go-on-spent k n =
-      let s = same (k .0) in
-      phase-of m b (go-on-leads (k .0) (k .1) (k .2) ∙ rw (sym (s .0) ∙ eq-eqb (m .counters .nit) (m .limits .maxiter) n))
+  as-reply : {r q : Reply} → Taken b r c m → r ≡ q → Taken b q c m
+  as-reply k e = subst (λ (r : Reply). Taken b r c m) e k
 
-  go-on-small : Taken b Reply.goOn c m → m .counters .nit < m .limits .maxiter → gradientSmall m ≡ true → m .phase ≡ Phase.ended Termination.gtol
-  go-on-small k l q =
-      let s = same (k .0) in
-      phase-of m b (go-on-leads (k .0) (k .1) (k .2) ∙ rw (sym (s .0) ∙ below m l, sym (s .1) ∙ q))
-
-  go-on-level :
-      Taken b Reply.goOn c m → m .counters .nit < m .limits .maxiter → gradientSmall m ≡ false → decreaseSmall m ≡ true
-      → m .phase ≡ Phase.ended Termination.ftol
-  go-on-level k l q f =
-      let s = same (k .0) in
-      phase-of m b (go-on-leads (k .0) (k .1) (k .2) ∙ rw (sym (s .0) ∙ below m l, sym (s .1) ∙ q, sym (s .2) ∙ f))
+  -- go on, by the tests of the machine after it
+  go-on-at : Taken b Reply.goOn c m → m ≡ ordered (atBudget m) (gradientSmall m) (decreaseSmall m) b
+  go-on-at k =
+      let s = same (k .step) in
+      rw (s .0, s .1, s .2) (go-on-leads (k .step) (k .due) (k .iterations))
 
   tested-ends : {r : Reply} → Taken b r c m → Meets r c m → Tested c r m → gradientSmall m ≡ true → m .phase ≡ Phase.ended Termination.gtol
-  tested-ends k h (Tested.onGoOn e l) q = go-on-small (subst (λ (r : Reply). Taken b r c m) e k) l q
+  tested-ends k h (Tested.onGoOn e l) q = phase-of m b (go-on-at (as-reply k e) ∙ rw (below-budget m l, q))
   tested-ends k h (Tested.atStart e j f) q = h .first e f j q
 
-  nonfinite-ends-it : {r : Reply} → Taken b r c m → Meets r c m → Nonfinite c r m → m .phase ≡ Phase.ended Termination.nonfinite
-  nonfinite-ends-it k h (Nonfinite.value v e f) = let k' = subst (λ (r : Reply). Taken b r c m) e k in value-ends v (k' .0) (k' .1) f
-  nonfinite-ends-it k h (Nonfinite.gradient e f) = h .nonfinite e f
+  number-ends : {r : Reply} → Taken b r c m → Meets r c m → Nonfinite c r m → m .phase ≡ Phase.ended Termination.nonfinite
+  number-ends k h (Nonfinite.value v e f) = let k' = as-reply k e in value-leads v (k' .step) (k' .due) f
+  number-ends k h (Nonfinite.gradient e f) = h .nonfinite e f
 
   ends : {r : Reply} (t : Termination) → exact t ≡ true → Taken b r c m → Meets r c m → Situation t c r m → m .phase ≡ Phase.ended t
   ends Termination.gtol x k h s = tested-ends k h (s .0) (s .1)
-  ends Termination.ftol x k h s = go-on-level (subst (λ (r : Reply). Taken b r c m) (s .0) k) (s .1) (s .2) (s .3)
-  ends Termination.maxIterations x k h s = go-on-spent (subst (λ (r : Reply). Taken b r c m) (s .0) k) (s .1)
+  ends Termination.ftol x k h s = phase-of m b (go-on-at (as-reply k (s .0)) ∙ rw (below-budget m (s .1), s .2, s .3))
+  ends Termination.maxIterations x k h s = phase-of m b (go-on-at (as-reply k (s .0)) ∙ rw (eq-eqb (m .counters .nit) (m .limits .maxiter) (s .1)))
   ends Termination.maxEvaluations x k h s = absurd (false≢true x)
-  ends Termination.cancelled x k h s = let k' = subst (λ (r : Reply). Taken b r c m) s k in stop-ends (k' .0) (k' .1)
-  ends Termination.nonfinite x k h s = nonfinite-ends-it k h s
+  ends Termination.cancelled x k h s = let k' = as-reply k s in phase-of m b (stop-leads (k' .step) (k' .due))
+  ends Termination.nonfinite x k h s = number-ends k h s
   ends Termination.lineSearchFailed x k h s = absurd (false≢true x)
-  ends Termination.objectiveFailed x k h s = let k' = subst (λ (r : Reply). Taken b r c m) s k in failure-ends (k' .0) (k' .1)
+  ends Termination.objectiveFailed x k h s = let k' = as-reply k s in phase-of m b (failure-leads (k' .step) (k' .due))
 
 -- ---- the theorems
 
 module _ (s : Setup) (r : Reply) (rs : List Reply) (accepted : Accepted s) (due : Due s (r ∷ rs)) where
   taken : Taken (run s rs) r (completesGradient (run s rs) r) (run s (r ∷ rs))
   unfolding run
-  taken = (turn (run s rs) r, due-taken (run s rs) r (due .0), stands s rs accepted (due .1) .iterations)
+  taken = record { step = turn (run s rs) r; due = due-taken (run s rs) r (due .0); iterations = stands s rs accepted (due .1) .iterations }
 
   met : Meets r (completesGradient (run s rs) r) (run s (r ∷ rs))
-  met = meets (taken .0) (taken .1) (stands s rs accepted (due .1))
+  met = meets (taken .step) (taken .due) (stands s rs accepted (due .1))
 
   -- a fit that ended with a status is in the situation that the status names
   pub status-means : (t : Termination) → run s (r ∷ rs) .phase ≡ Phase.ended t → Situation t (completesGradient (run s rs) r) r (run s (r ∷ rs))
@@ -339,6 +330,12 @@ module _ (s : Setup) (r : Reply) (rs : List Reply) (accepted : Accepted s) (due 
   pub situation-ends :
       (t : Termination) → exact t ≡ true → Situation t (completesGradient (run s rs) r) r (run s (r ∷ rs)) → run s (r ∷ rs) .phase ≡ Phase.ended t
   situation-ends t x h = ends t x taken met h
+
+  -- so a fit that ended is in the situation of no other status, those two aside
+  pub one-situation :
+      (t u : Termination) → run s (r ∷ rs) .phase ≡ Phase.ended t → exact u ≡ true
+      → Situation u (completesGradient (run s rs) r) r (run s (r ∷ rs)) → u ≡ t
+  one-situation t u e x h = let q = situation-ends u x h in cc
 
 -- go on at a notice: the iteration budget, then the gradient, then the decrease; then the next search
 pub order-at-notice :
@@ -350,5 +347,6 @@ pub order-at-notice :
     (descend (run s rs))))
 unfolding run
 order-at-notice s rs a d e =
-    subst (λ (l : Limits). run s (Reply.goOn ∷ rs) ≡ ordered (eqb (run s rs .counters .nit) (l .maxiter)) (run s rs)) (limits-stay s rs d)
-    (go-on-leads (turn (run s rs) Reply.goOn) (ap (λ (p : Phase). suits (kindOf p) Reply.goOn) e) (stands s rs a d .iterations))
+    let m = run s rs in
+    subst (λ (l : Limits). answer m Reply.goOn ≡ ordered (eqb (m .counters .nit) (l .maxiter)) (gradientSmall m) (decreaseSmall m) m) (limits-stay s rs d)
+    (go-on-leads (turn m Reply.goOn) (ap (λ (p : Phase). suits (kindOf p) Reply.goOn) e) (stands s rs a d .iterations))

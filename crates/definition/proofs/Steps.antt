@@ -1,7 +1,7 @@
 -- One law for the theorems on a fit: the step that a reply makes, and what holds at the next question if each part of the step keeps it. Assumes nothing.
 use Prim.Native.Nat.{ℕ, zero, suc, _+_, _-_}
-use mathlib.Core.Path.{_≡_, refl, ap, _∙_}
-use mathlib.Core.Bool.{Bool, true, false, cond, _&&_}
+use mathlib.Core.Path.{_≡_, refl, sym, ap, _∙_}
+use mathlib.Core.Bool.{Bool, true, false, cond, _&&_, true≢false}
 use mathlib.Core.List.{List, map}
 use mathlib.Core.Option.{Option, none, some}
 use lib.Dec.{eqb}
@@ -16,6 +16,10 @@ use Rattle.definition.specs.Search.{Search, beginSearch, trialPoint, acc
 use Rattle.definition.specs.Machine.{Reply, Place, Side, Phase, Machine, state, inPhase, counting, holding, trying, withCompact, heading, searching, withRight, ending, kindOf, suits, takes}
 use Rattle.definition.specs.Driver.{Ends, chosenEnd, endsOf, gradientSmall, decreaseSmall, askValue, tryStep, trySearch, searchAlong, towards, byModel, withoutPairs, orWithoutPairs, descend, iterate, learn, move, judgeTrial, measured, complete, withGradient, withComponent, byProbes, probeFrom, probedTo, probed, valued, onValue, onGradient, onNotSupplied, onProbe, onGoOn, answerIn, answer}
 use Rattle.definition.specs.Facts.{unprobed, unprobedFrom, lastProbe, lastAsked, completesIn, completesGradient, gradientFinite}
+
+pub by-test : {A : Type 0} (P : A → Type 0) (t : Bool) {a b : A} → (t ≡ true → P a) → (t ≡ false → P b) → P (cond t a b)
+by-test P true f g = f refl
+by-test P false f g = g refl
 
 -- ---- the step that a reply makes
 
@@ -58,15 +62,12 @@ probe-turn w i side v m e = go (finite (toFloat v)) refl
 
 notice-turn : (m : Machine) → m .phase ≡ Phase.notice → Turn m Reply.goOn false (onGoOn m)
 unfolding onGoOn iterate
-notice-turn m e = go (iterationsSpent (m .limits) (m .counters)) refl (gradientSmall m) refl (decreaseSmall m) refl
-  where
-    go : (a : Bool) → iterationsSpent (m .limits) (m .counters) ≡ a → (b : Bool) → gradientSmall m ≡ b → (c : Bool) → decreaseSmall m ≡ c
-        → Turn m Reply.goOn false
-        (cond a (ending Termination.maxIterations m) (cond b (ending Termination.gtol m) (cond c (ending Termination.ftol m) (cond b (ending Termination.gtol m) (descend m)))))
-    go true p b q c r = Turn.spent e p
-    go false p true q c r = Turn.small e p q
-    go false p false q true r = Turn.level e p q r
-    go false p false q false r = Turn.onward e p q r
+notice-turn m e =
+    let P : Machine → Type 0 = Turn m Reply.goOn false in
+    by-test P (iterationsSpent (m .limits) (m .counters)) (λ p. Turn.spent e p)
+    (λ p. by-test P (gradientSmall m) (λ q. Turn.small e p q)
+    (λ q. by-test P (decreaseSmall m) (λ k. Turn.level e p q k)
+    (λ k. by-test P (gradientSmall m) (λ f. absurd (true≢false (sym f ∙ q))) (λ _. Turn.onward e p q k))))
 
 pub none-suits : (r : Reply) → suits 0 r ≡ false
 none-suits (Reply.value v) = refl
@@ -114,10 +115,6 @@ pub turn : (m : Machine) (r : Reply) → Turn m r (completesGradient m r) (answe
 turn m r = turn-in (m .phase) m r refl
 
 -- ---- what is kept from question to question
-
-pub by-test : (P : Machine → Type 0) (t : Bool) {a b : Machine} → (t ≡ true → P a) → (t ≡ false → P b) → P (cond t a b)
-by-test P true f g = f refl
-by-test P false f g = g refl
 
 -- a value question raised; a gradient counted; the start held; the next trial set
 abbrev pub asking : Phase → Machine → Machine

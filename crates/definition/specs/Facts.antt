@@ -154,13 +154,16 @@ StateSized n h = (length (h .x) ≡ n) × (length (h .g) ≡ n)
 abbrev pub PairSized : ℕ → Pair → Type 0
 PairSized n p = (length (p .s) ≡ n) × (length (p .y) ≡ n)
 
+pub record PairsSized (n maxcor : ℕ) (pairs : List Pair) : Type 0 where
+  pub few : length pairs ≤ maxcor
+  pub words : Each (PairSized n) pairs
+
 -- n words in every vector, at most maxcor pairs, at most 60 trials of a search
 pub record SizedAs (n maxcor : ℕ) (held trial : State) (direction : List Float) (pairs : List Pair) (trials : ℕ) : Type 0 where
   pub heldWords : StateSized n held
   pub trialWords : StateSized n trial
   pub directionWords : length direction ≡ n
-  pub fewPairs : length pairs ≤ maxcor
-  pub pairWords : Each (PairSized n) pairs
+  pub pairWords : PairsSized n maxcor pairs
   pub fewTrials : trials ≤ searchTrials
 
 abbrev pub Sized : Setup → Machine → Type 0
