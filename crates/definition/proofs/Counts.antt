@@ -68,7 +68,7 @@ module _ {b : Machine} (g : ℕ) {j : ℕ} where
   descends : Descends (Kept b j) (Raised b g j)
   descends = record {
     bare = λ m h. h;
-    headed = λ m e h. h;
+    headed = λ m e h q. h;
     begun = λ m r h e. h;
     failed = λ m h. raised-ended Termination.lineSearchFailed m h;
     spent = λ m h e. raised-ended Termination.maxEvaluations m h;
@@ -139,8 +139,13 @@ answered-ended r t m h = record {
 }
 
 -- on with an iteration left
-answered-on : {b : Machine} {r : Reply} (c : Bool) {m : Machine} → Raised b (cond (isValue r) 1 0) (cond c 1 0) m → (Room b → b .counters .nit + 1 ≤ b .limits .maxiter) → Answered b r c m
-answered-on c {m} h left = record { raised = h; room = λ o. omega (arith, left o, h .charged .notices, one-open (m .phase), ap (λ (l : Limits). l .maxiter) (h .limits)) }
+answered-on :
+    {b : Machine} {r : Reply} (c : Bool) {m : Machine} → Raised b (cond (isValue r) 1 0) (cond c 1 0) m
+    → (Room b → b .counters .nit + 1 ≤ b .limits .maxiter) → Answered b r c m
+answered-on c {m} h left = record {
+  raised = h;
+  room = λ o. omega (arith, left o, h .charged .notices, one-open (m .phase), ap (λ (l : Limits). l .maxiter) (h .limits));
+}
 
 left-in : (b : Machine) {p : Phase} → b .phase ≡ p → opens 1 p + opens 2 p ≡ 1 → Room b → b .counters .nit + 1 ≤ b .limits .maxiter
 left-in b e one o = omega (arith, ap (opens 1) e, ap (opens 2) e)
@@ -152,7 +157,8 @@ answered : {b : Machine} {r : Reply} {c : Bool} {m : Machine} → Turn b r c m �
 answered {b} (Turn.value w v e q) d = answered-on false (raised-gradient w (valued w (toFloat v) b) (valued-kept w (toFloat v) b)) (left-in b e refl)
 answered {b} (Turn.nonfinite w v e q) d = answered-ended (Reply.value v) Termination.nonfinite (valued w (toFloat v) b) (valued-kept w (toFloat v) b)
 answered {b} (Turn.probe w i side v e q) d =
-    answered-on (lastAsked b (Phase.probe w i side)) (probed-leads (gathers b 1) w i (probesAt (b .terms) (b .trial .x) i) side (toFloat v) b (kept b)) (left-in b e refl)
+    answered-on (lastAsked b (Phase.probe w i side))
+    (probed-leads (gathers b 1) w i (probesAt (b .terms) (b .trial .x) i) side (toFloat v) b (kept b)) (left-in b e refl)
 answered {b} (Turn.nonfiniteProbe w i side v e q) d = answered-ended (Reply.value v) Termination.nonfinite b (kept b)
 answered {b} (Turn.supplied w ws e) d = answered-on true (complete-leads (gathers b 0) w (withGradient (map toFloat ws) b) (kept b)) (left-in b e refl)
 answered {b} (Turn.differenced w e) d =

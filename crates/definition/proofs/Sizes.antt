@@ -152,7 +152,7 @@ module _ (s : Setup) (one : 1 ≤ maxcorOf s) where
   descends : Descends Keeps Keeps
   descends = record {
     bare = λ m h. paired m noPairs no-pairs h;
-    headed = λ m e h. turned m _ (n-words m _ h) h;
+    headed = λ m e h q. turned m _ (n-words m _ h) h;
     begun = λ m r h e. aimed m _ r (begun-few (m .terms .n) (m .terms .bounds) (m .held .x) (m .held .g) (m .direction)) e h;
     failed = λ m h. h;
     spent = λ m h e. h;

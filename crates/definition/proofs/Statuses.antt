@@ -112,7 +112,7 @@ module _ (r : Reply) where
   unfolding gradientSmall decreaseSmall
   descends c = record {
     bare = λ m h. h;
-    headed = λ m e h. h;
+    headed = λ m e h q. h;
     begun = λ m q h e. h;
     failed = λ m h. sought (ending Termination.lineSearchFailed m) h (h .0 .steep, h .0 .left, h .0 .falling);
     spent = λ m h e. sought (ending Termination.maxEvaluations m) h (spent-values m (h .0 .within) e, h .0 .left);
@@ -130,7 +130,9 @@ module _ (r : Reply) where
   nonfinite-ends : (w : Place) (m : Machine) → Known w m → gradientFinite m ≡ false → Meets r true (ending Termination.nonfinite (gathered m))
   nonfinite-ends w m h e = record { told = Nonfinite.gradient refl e; nonfinite = λ _ _. refl; first = λ _ q j s. absurd (true≢false (sym q ∙ e)) }
 
-  small-ends : (m : Machine) → FreshIn (m .limits) (m .counters) → gradientFinite m ≡ true → gradientSmall (started m) ≡ true → Meets r true (ending Termination.gtol (started m))
+  small-ends :
+      (m : Machine) → FreshIn (m .limits) (m .counters) → gradientFinite m ≡ true → gradientSmall (started m) ≡ true
+      → Meets r true (ending Termination.gtol (started m))
   unfolding gradientSmall
   small-ends m h e q = record {
     told = (Tested.atStart refl (omega (arith, h .none)) e, q);
@@ -239,7 +241,7 @@ Same b m = (atBudget m ≡ atBudget b) × (gradientSmall m ≡ gradientSmall b) 
 
 descends-same : (b : Machine) → Descends (Same b) (Same b)
 unfolding gradientSmall decreaseSmall
-descends-same b = record { bare = λ m h. h; headed = λ m e h. h; begun = λ m r h e. h; failed = λ m h. h; spent = λ m h e. h; asked = λ m h e. h }
+descends-same b = record { bare = λ m h. h; headed = λ m e h q. h; begun = λ m r h e. h; failed = λ m h. h; spent = λ m h e. h; asked = λ m h e. h }
 
 -- a due reply, and the step that it makes
 record Taken (b : Machine) (r : Reply) (c : Bool) (m : Machine) : Type 0 where

@@ -17,6 +17,7 @@ use Rattle.definition.specs.Machine.{Reply, Place, Side, Phase, Machine,
 use Rattle.definition.specs.Driver.{Ends, chosenEnd, endsOf, gradientSmall, decreaseSmall, askValue, tryStep, trySearch, searchAlong, towards, byModel, withoutPairs, orWithoutPairs, descend, iterate, learn, move, judgeTrial, measured, complete, withGradient, withComponent, byProbes, probeFrom, probedTo, probed, valued, onValue, onGradient, onNotSupplied, onProbe, onGoOn, answerIn, answer}
 use Rattle.definition.specs.Facts.{unprobed, unprobedFrom, lastProbe, lastAsked, completesIn, completesGradient, gradientFinite}
 
+-- by either branch of a test
 pub by-test : {A : Type 0} (P : A → Type 0) (t : Bool) {a b : A} → (t ≡ true → P a) → (t ≡ false → P b) → P (cond t a b)
 by-test P true f g = f refl
 by-test P false f g = g refl
@@ -25,16 +26,37 @@ by-test P false f g = g refl
 
 -- the reply r, given to m, leads to the machine named last; the Bool: it completes a gradient
 pub data Turn (m : Machine) : Reply → Bool → Machine → Type 0 where
-  value : (w : Place) (v : ℕ) → m .phase ≡ Phase.value w → finite (toFloat v) ≡ true → Turn m (Reply.value v) false (inPhase (Phase.gradient w) (valued w (toFloat v) m))
-  nonfinite : (w : Place) (v : ℕ) → m .phase ≡ Phase.value w → finite (toFloat v) ≡ false → Turn m (Reply.value v) false (ending Termination.nonfinite (valued w (toFloat v) m))
-  probe : (w : Place) (i : ℕ) (side : Side) (v : ℕ) → m .phase ≡ Phase.probe w i side → finite (toFloat v) ≡ true → Turn m (Reply.value v) (lastAsked m (Phase.probe w i side)) (probed w i (probesAt (m .terms) (m .trial .x) i) side (toFloat v) m)
-  nonfiniteProbe : (w : Place) (i : ℕ) (side : Side) (v : ℕ) → m .phase ≡ Phase.probe w i side → finite (toFloat v) ≡ false → Turn m (Reply.value v) false (ending Termination.nonfinite m)
-  supplied : (w : Place) (ws : List ℕ) → m .phase ≡ Phase.gradient w → Turn m (Reply.gradient ws) true (complete w (withGradient (map toFloat ws) m))
-  differenced : (w : Place) → m .phase ≡ Phase.gradient w → Turn m Reply.notSupplied (unprobedFrom (m .terms .n) (m .terms) (m .trial .x) 0) (probeFrom (m .terms .n) w 0 (withGradient (zeros (m .terms .n)) m))
-  spent : m .phase ≡ Phase.notice → iterationsSpent (m .limits) (m .counters) ≡ true → Turn m Reply.goOn false (ending Termination.maxIterations m)
-  small : m .phase ≡ Phase.notice → iterationsSpent (m .limits) (m .counters) ≡ false → gradientSmall m ≡ true → Turn m Reply.goOn false (ending Termination.gtol m)
-  level : m .phase ≡ Phase.notice → iterationsSpent (m .limits) (m .counters) ≡ false → gradientSmall m ≡ false → decreaseSmall m ≡ true → Turn m Reply.goOn false (ending Termination.ftol m)
-  onward : m .phase ≡ Phase.notice → iterationsSpent (m .limits) (m .counters) ≡ false → gradientSmall m ≡ false → decreaseSmall m ≡ false → Turn m Reply.goOn false (descend m)
+  value :
+      (w : Place) (v : ℕ) → m .phase ≡ Phase.value w → finite (toFloat v) ≡ true
+      → Turn m (Reply.value v) false (inPhase (Phase.gradient w) (valued w (toFloat v) m))
+  nonfinite :
+      (w : Place) (v : ℕ) → m .phase ≡ Phase.value w → finite (toFloat v) ≡ false
+      → Turn m (Reply.value v) false (ending Termination.nonfinite (valued w (toFloat v) m))
+  probe :
+      (w : Place) (i : ℕ) (side : Side) (v : ℕ) → m .phase ≡ Phase.probe w i side → finite (toFloat v) ≡ true
+      → Turn m (Reply.value v) (lastAsked m (Phase.probe w i side)) (probed w i (probesAt (m .terms) (m .trial .x) i) side (toFloat v) m)
+  nonfiniteProbe :
+      (w : Place) (i : ℕ) (side : Side) (v : ℕ) → m .phase ≡ Phase.probe w i side → finite (toFloat v) ≡ false
+      → Turn m (Reply.value v) false (ending Termination.nonfinite m)
+  supplied :
+      (w : Place) (ws : List ℕ) → m .phase ≡ Phase.gradient w
+      → Turn m (Reply.gradient ws) true (complete w (withGradient (map toFloat ws) m))
+  differenced :
+      (w : Place) → m .phase ≡ Phase.gradient w
+      → Turn m Reply.notSupplied (unprobedFrom (m .terms .n) (m .terms) (m .trial .x) 0)
+      (probeFrom (m .terms .n) w 0 (withGradient (zeros (m .terms .n)) m))
+  spent :
+      m .phase ≡ Phase.notice → iterationsSpent (m .limits) (m .counters) ≡ true
+      → Turn m Reply.goOn false (ending Termination.maxIterations m)
+  small :
+      m .phase ≡ Phase.notice → iterationsSpent (m .limits) (m .counters) ≡ false → gradientSmall m ≡ true
+      → Turn m Reply.goOn false (ending Termination.gtol m)
+  level :
+      m .phase ≡ Phase.notice → iterationsSpent (m .limits) (m .counters) ≡ false → gradientSmall m ≡ false → decreaseSmall m ≡ true
+      → Turn m Reply.goOn false (ending Termination.ftol m)
+  onward :
+      m .phase ≡ Phase.notice → iterationsSpent (m .limits) (m .counters) ≡ false → gradientSmall m ≡ false → decreaseSmall m ≡ false
+      → Turn m Reply.goOn false (descend m)
   stops : m .phase ≡ Phase.notice → Turn m Reply.stop false (ending Termination.cancelled m)
   fails : takes m Reply.failure ≡ true → Turn m Reply.failure false (ending Termination.objectiveFailed m)
   -- the reply is not due
@@ -56,7 +78,8 @@ unfolding onProbe
 probe-turn w i side v m e = go (finite (toFloat v)) refl
   where
     go : (t : Bool) → finite (toFloat v) ≡ t
-        → Turn m (Reply.value v) (t && lastAsked m (Phase.probe w i side)) (cond t (probed w i (probesAt (m .terms) (m .trial .x) i) side (toFloat v) m) (ending Termination.nonfinite m))
+        → Turn m (Reply.value v) (t && lastAsked m (Phase.probe w i side))
+        (cond t (probed w i (probesAt (m .terms) (m .trial .x) i) side (toFloat v) m) (ending Termination.nonfinite m))
     go true q = Turn.probe w i side v e q
     go false q = Turn.nonfiniteProbe w i side v e q
 
@@ -136,8 +159,12 @@ trialSlope m = dot (m .terms .n) (m .trial .g) (m .direction)
 -- S: while a step from the point held is sought; Q: at the next question, or the end
 pub record Descends (S Q : Machine → Type 0) : Type 0 where
   pub bare : (m : Machine) → S m → S (withCompact noPairs m)
-  pub headed : (m : Machine) (e : Ends) → S m → S (heading (difference (m .terms .n) (chosenEnd (m .terms .n) (m .held) e) (m .held .x)) m)
-  pub begun : (m : Machine) (r : Search) → S m → beginSearch (m .terms .n) (m .terms .bounds) (m .held .x) (m .held .g) (m .direction) ≡ some r → S (aiming r m)
+  pub headed :
+      (m : Machine) (e : Ends) → S m → endsOf (m .terms) (m .compact) (m .held) ≡ some e
+      → S (heading (difference (m .terms .n) (chosenEnd (m .terms .n) (m .held) e) (m .held .x)) m)
+  pub begun :
+      (m : Machine) (r : Search) → S m
+      → beginSearch (m .terms .n) (m .terms .bounds) (m .held .x) (m .held .g) (m .direction) ≡ some r → S (aiming r m)
   pub failed : (m : Machine) → S m → Q (ending Termination.lineSearchFailed m)
   pub spent : (m : Machine) → S m → valueLeft (m .limits) (m .counters) ≡ false → Q (ending Termination.maxEvaluations m)
   pub asked : (m : Machine) → S m → valueLeft (m .limits) (m .counters) ≡ true → Q (asking (Phase.value Place.trial) m)
@@ -152,26 +179,27 @@ module _ {S Q : Machine → Type 0} (k : Descends S Q) where
   search-leads m none h next = k .failed m h
   search-leads m (some r) h next = trial-leads (aiming r m) (next r refl)
 
-  towards-leads : (e : Ends) (m : Machine) → S m → Q (towards e m)
+  towards-leads : (e : Ends) (m : Machine) → S m → endsOf (m .terms) (m .compact) (m .held) ≡ some e → Q (towards e m)
   unfolding towards searchAlong
-  towards-leads e m h =
+  towards-leads e m h q =
       let m' = heading (difference (m .terms .n) (chosenEnd (m .terms .n) (m .held) e) (m .held .x)) m in
-      let h' = k .headed m e h in
+      let h' = k .headed m e h q in
       search-leads m' (beginSearch (m .terms .n) (m .terms .bounds) (m .held .x) (m .held .g) (m' .direction)) h' (λ r. k .begun m' r h')
 
-  model-leads : (m : Machine) (o : Option Ends) → S m → Q (byModel m o)
-  model-leads m none h = k .failed m h
-  model-leads m (some e) h = towards-leads e m h
+  model-leads : (m : Machine) (o : Option Ends) → S m → endsOf (m .terms) (m .compact) (m .held) ≡ o → Q (byModel m o)
+  model-leads m none h q = k .failed m h
+  model-leads m (some e) h q = towards-leads e m h q
 
-  pairs-lead : (m : Machine) (o : Option Ends) → S m → Q (orWithoutPairs m o)
+  pairs-lead : (m : Machine) (o : Option Ends) → S m → endsOf (m .terms) (m .compact) (m .held) ≡ o → Q (orWithoutPairs m o)
   unfolding withoutPairs
-  pairs-lead m none h =
-      by-test Q (eqb (count (m .compact)) 0) (λ _. k .failed m h) (λ _. model-leads (withCompact noPairs m) (endsOf (m .terms) noPairs (m .held)) (k .bare m h))
-  pairs-lead m (some e) h = towards-leads e m h
+  pairs-lead m none h q =
+      by-test Q (eqb (count (m .compact)) 0) (λ _. k .failed m h)
+      (λ _. model-leads (withCompact noPairs m) (endsOf (m .terms) noPairs (m .held)) (k .bare m h) refl)
+  pairs-lead m (some e) h q = towards-leads e m h q
 
   pub descend-leads : (m : Machine) → S m → Q (descend m)
   unfolding descend
-  descend-leads m h = pairs-lead m (endsOf (m .terms) (m .compact) (m .held)) h
+  descend-leads m h = pairs-lead m (endsOf (m .terms) (m .compact) (m .held)) h refl
 
 -- G: while the gradient at a place is gathered; Q true: once it is complete
 pub record Gathers (G : Place → Machine → Type 0) (S : Machine → Type 0) (Q : Bool → Machine → Type 0) : Type 0 where
@@ -184,8 +212,12 @@ pub record Gathers (G : Place → Machine → Type 0) (S : Machine → Type 0) (
   pub small : (m : Machine) → G Place.start m → gradientFinite m ≡ true → gradientSmall (started m) ≡ true → Q true (ending Termination.gtol (started m))
   pub steep : (m : Machine) → G Place.start m → gradientFinite m ≡ true → gradientSmall (started m) ≡ false → S (started m)
   pub tried : (m : Machine) → G Place.trial m → gradientFinite m ≡ true → S (gathered m)
-  pub again : (m : Machine) (r : Search) → G Place.trial m → gradientFinite m ≡ true → afterTrial (m .search) (m .held .f) (m .trial .f) (trialSlope m) ≡ some r → S (aiming r (gathered m))
-  pub moved : (m : Machine) → G Place.trial m → gradientFinite m ≡ true → accepts (m .search) (m .held .f) (m .trial .f) (trialSlope m) ≡ true → Q true (move (learn (gathered m)))
+  pub again :
+      (m : Machine) (r : Search) → G Place.trial m → gradientFinite m ≡ true
+      → afterTrial (m .search) (m .held .f) (m .trial .f) (trialSlope m) ≡ some r → S (aiming r (gathered m))
+  pub moved :
+      (m : Machine) → G Place.trial m → gradientFinite m ≡ true
+      → accepts (m .search) (m .held .f) (m .trial .f) (trialSlope m) ≡ true → Q true (move (learn (gathered m)))
 
 module _ {G : Place → Machine → Type 0} {S : Machine → Type 0} {Q : Bool → Machine → Type 0} (k : Gathers G S Q) where
   judge-leads : (m : Machine) → G Place.trial m → gradientFinite m ≡ true → Q true (judgeTrial (gathered m))
