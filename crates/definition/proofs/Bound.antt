@@ -12,7 +12,7 @@ use Rattle.definition.specs.Machine.{Reply, Phase, Machine, checkDue, qu
 use Rattle.definition.specs.Driver.{run}
 use Rattle.definition.specs.Replies.{Accepted, Due, isValue, isNotice, isFailure, countOf, openOf}
 use Rattle.definition.specs.Facts.{isGradient}
-use Rattle.definition.proofs.Steps.{none-suits}
+use Rattle.definition.proofs.Turns.{none-suits}
 use Rattle.definition.proofs.Counts.{opens, counted, failures}
 
 -- every reply is of one kind

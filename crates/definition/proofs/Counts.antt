@@ -18,7 +18,7 @@ use Rattle.definition.specs.Driver.{withGradient, valued, learn, move, b
 use Rattle.definition.specs.Replies.{Accepted, Due, isValue, isNotice, isFailure, countOf, openOf}
 use Rattle.definition.specs.Facts.{isGradient, failedOf, unprobedFrom, lastAsked, gradientsCompleted, Counted}
 use Rattle.definition.proofs.Accepted.{accepted-in-limits, due-taken}
-use Rattle.definition.proofs.Steps.{Turn, turn, asking, gathered, started, Descends, descend-leads, Gathers, complete-leads, from-leads, probed-leads}
+use Rattle.definition.proofs.Turns.{Turn, turn, asking, gathered, started, Descends, descend-leads, Gathers, complete-leads, from-leads, probed-leads}
 
 -- ---- what one step counts
 

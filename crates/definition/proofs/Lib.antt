@@ -2,7 +2,7 @@ pub mod Opened
 pub mod Starred
 pub mod Example
 pub mod Accepted
-pub mod Steps
+pub mod Turns
 pub mod Counts
 pub mod Bound
 pub mod Statuses

@@ -22,7 +22,7 @@ use Rattle.definition.specs.Driver.{learn, move, withGradient, valued, b
 use Rattle.definition.specs.Replies.{Accepted, Due}
 use Rattle.definition.specs.Facts.{Each, StateSized, PairSized, PairsSized, Sized}
 use Rattle.definition.proofs.Accepted.{accepted-in-limits, due-length, tab-length}
-use Rattle.definition.proofs.Steps.{Turn, turn, by-test, gathered, aiming, Descends, descend-leads, Gathers, complete-leads, from-leads, probed-leads}
+use Rattle.definition.proofs.Turns.{Turn, turn, by-test, gathered, aiming, Descends, descend-leads, Gathers, complete-leads, from-leads, probed-leads}
 use Rattle.definition.proofs.Counts.{terms-stay}
 
 -- ---- the trials of a search

@@ -18,7 +18,7 @@ use Rattle.definition.specs.Driver.{answer, gradientSmall, decreaseSmall
 use Rattle.definition.specs.Replies.{Accepted, Due}
 use Rattle.definition.specs.Facts.{completesGradient, gradientFinite, Tested, Nonfinite, Situation, exact}
 use Rattle.definition.proofs.Accepted.{accepted-in-limits, due-taken}
-use Rattle.definition.proofs.Steps.{Turn, turn, asking, gathered, started, Descends, descend-leads, Gathers, complete-leads, from-leads, probed-leads}
+use Rattle.definition.proofs.Turns.{Turn, turn, asking, gathered, started, Descends, descend-leads, Gathers, complete-leads, from-leads, probed-leads}
 use Rattle.definition.proofs.Counts.{limits-stay, nfev-within-budget, nit-within-budget}
 
 -- ---- what is known while a fit runs
