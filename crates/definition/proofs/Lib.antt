@@ -23,3 +23,10 @@ pub mod RoundTrip
 pub mod Histories
 pub mod TakenBack
 pub mod Ordered
+pub mod Accepted
+pub mod Turns
+pub mod Counts
+pub mod Bound
+pub mod Statuses
+pub mod Sizes
+pub mod Words

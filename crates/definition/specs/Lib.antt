@@ -19,3 +19,4 @@ pub mod Values
 pub mod Paths
 pub mod Sound
 pub mod Ordered
+pub mod Facts
