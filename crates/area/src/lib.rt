@@ -1,0 +1,156 @@
+// The working area: one lent slice, in which vector k of n words stands at offset k * n.
+ghost use mathlib.Core.Path.{_≡_};
+ghost use Prim.Native.Nat.{_+_, _*_, _≤_, _<_};
+ghost use lib.ListN.{length};
+ghost use lib.Ieee.Scale.{finite};
+ghost use mathlib.Core.Bool.{_&&_};
+ghost use Rattle.definition.specs.Vector.{dot as dotOf, allFinite};
+ghost use Rattle.definition.specs.Problem.{areaWords};
+ghost use Rattle.area.specs.Area.{view, upd, wordsAt, putWord, copyOf, fillOf, differenceOf};
+
+pub const X: usize = 0;
+
+pub const G: usize = 1;
+
+pub const LOWER: usize = 2;
+
+pub const UPPER: usize = 3;
+
+pub const X0: usize = 4;
+
+pub const TRIAL: usize = 5;
+
+pub const TRIAL_GRADIENT: usize = 6;
+
+pub const DIRECTION: usize = 7;
+
+pub const VELOCITY: usize = 8;
+
+pub const DISPLACEMENT: usize = 9;
+
+pub const ACTIVE: usize = 10;
+
+pub const CAUCHY: usize = 11;
+
+pub const TARGET: usize = 12;
+
+pub const PRODUCT_D: usize = 13;
+
+pub const PRODUCT_Z: usize = 14;
+
+pub const STEP: usize = 15;
+
+// The words that n coordinates and m pairs need.
+pub fn words(n: usize, m: usize) -> usize
+    requires { ⌜ (n ≤ 65536) × (m ≤ 65536) ⌝ }
+    ensures { λ r. ⌜ r ≡ areaWords n m ⌝ }
+{
+    n * (4 * m + 16) + 4 * m * m + 4 * m
+}
+
+// Word i of vector p.
+pub fn get(area: &[f64], n: usize, p: usize, i: usize) -> f64
+    requires { ⌜ (p * n + n ≤ length (now area)) × (i < n) ⌝ }
+    ensures { λ r. ⌜ r ≡ wordsAt (now (area .entry)) n i p ⌝ }
+{
+    area[p * n + i]
+}
+
+pub fn put(area: &mut [f64], n: usize, p: usize, i: usize, v: f64)
+    requires { ⌜ (p * n + n ≤ length (now area)) × (i < n) ⌝ }
+    ensures { λ _. ⌜ view (now (area .exit)) n ≡ putWord (view (now (area .entry)) n) p i v ⌝ }
+{
+    area[p * n + i] = v;
+}
+
+// Vector p becomes vector q.
+pub fn copy(area: &mut [f64], n: usize, p: usize, q: usize)
+    requires { ⌜ (p * n + n ≤ length (now area)) × (q * n + n ≤ length (now area)) ⌝ }
+    ensures { λ _. ⌜ view (now (area .exit)) n ≡ copyOf p q (view (now (area .entry)) n) ⌝ }
+{
+    let to = p * n;
+    let from = q * n;
+    let mut i = 0;
+    while i < n {
+        area[to + i] = area[from + i];
+        i += 1;
+    }
+}
+
+// Each word of vector p becomes v.
+pub fn fill(area: &mut [f64], n: usize, p: usize, v: f64)
+    requires { ⌜ p * n + n ≤ length (now area) ⌝ }
+    ensures { λ _. ⌜ view (now (area .exit)) n ≡ fillOf n p v (view (now (area .entry)) n) ⌝ }
+{
+    let to = p * n;
+    let mut i = 0;
+    while i < n {
+        area[to + i] = v;
+        i += 1;
+    }
+}
+
+// Vector p becomes the slice v.
+pub fn store(area: &mut [f64], n: usize, p: usize, v: &[f64])
+    requires { ⌜ (p * n + n ≤ length (now area)) × (length (now v) ≡ n) ⌝ }
+    ensures { λ _. ⌜ view (now (area .exit)) n ≡ upd (view (now (area .entry)) n) p (now (v .entry)) ⌝ }
+{
+    let to = p * n;
+    let mut i = 0;
+    while i < n {
+        area[to + i] = v[i];
+        i += 1;
+    }
+}
+
+// Vector p becomes vector q less vector r.
+pub fn difference(area: &mut [f64], n: usize, p: usize, q: usize, r: usize)
+    requires { ⌜ (p * n + n ≤ length (now area)) × (q * n + n ≤ length (now area)) × (r * n + n ≤ length (now area)) ⌝ }
+    ensures { λ _. ⌜ view (now (area .exit)) n ≡ differenceOf n p q r (view (now (area .entry)) n) ⌝ }
+{
+    let to = p * n;
+    let a = q * n;
+    let b = r * n;
+    let mut i = 0;
+    while i < n {
+        area[to + i] = area[a + i] - area[b + i];
+        i += 1;
+    }
+}
+
+// The product of vectors p and q, from the left and from -0.0.
+pub fn dot(area: &[f64], n: usize, p: usize, q: usize) -> f64
+    requires { ⌜ (p * n + n ≤ length (now area)) × (q * n + n ≤ length (now area)) ⌝ }
+    ensures { λ r. ⌜ r ≡ dotOf n (view (now (area .entry)) n p) (view (now (area .entry)) n q) ⌝ }
+{
+    let a = p * n;
+    let b = q * n;
+    let mut sum = float::NEG_ZERO;
+    let mut i = 0;
+    while i < n {
+        sum = sum + area[a + i] * area[b + i];
+        i += 1;
+    }
+    sum
+}
+
+fn both_finite(ok: bool, x: f64) -> bool
+    ensures { λ r. ⌜ r ≡ (ok && finite x) ⌝ }
+{
+    if ok { float::is_finite(x) } else { false }
+}
+
+// Whether every word of vector p is finite.
+pub fn all_finite(area: &[f64], n: usize, p: usize) -> bool
+    requires { ⌜ p * n + n ≤ length (now area) ⌝ }
+    ensures { λ r. ⌜ r ≡ allFinite n (view (now (area .entry)) n p) ⌝ }
+{
+    let at = p * n;
+    let mut ok = true;
+    let mut i = 0;
+    while i < n {
+        ok = both_finite(ok, area[at + i]);
+        i += 1;
+    }
+    ok
+}

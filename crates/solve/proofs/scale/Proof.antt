@@ -1,0 +1,38 @@
+-- `solve::scale` meets its contract; in its loop most is the largest magnitude of the first i rows. Assumes nothing.
+use Prim.Native.Nat.{_-_}
+use Rattle.float.proofs.Constants.{zero-is}
+use Rattle.definition.specs.Number.{abs, max, zero64}
+use Rattle.definition.specs.Vector.{foldTo}
+use Rattle.definition.specs.Solve.{entry, scaleOf}
+use Rattle.area.proofs.Laws.{Looped, looped-none, laws}
+use Rattle.solve.proofs.scale.Statement.{statement}
+use Rattle.solve.proofs.scale.Tie as tie
+
+abbrev Inv-loop : tie.InvT-loop
+Inv-loop a n most₀ i₀ most i = Looped n (λ i most. foldTo n (λ j m. max m (abs (entry a i j))) most) zero64 most i
+
+abbrev μ-loop : tie.MeasureT-loop
+μ-loop a n most₀ i₀ most i = n - i
+
+loop-holds : tie.Need-loop-holds Inv-loop μ-loop
+loop-holds c = rw zero-is looped-none
+
+loop-again : tie.Need-loop-again Inv-loop μ-loop
+loop-again c = search laws
+
+returns : tie.Need-returns Inv-loop μ-loop
+unfolding scaleOf
+returns c = search laws
+
+pub scale-spec : {M : Type 1} → statement M
+scale-spec =
+    tie.close
+    (tie.spec
+    Inv-loop
+    μ-loop
+    loop-holds
+    (λ c κs. search laws)
+    (λ c. search laws)
+    (λ c. search laws)
+    loop-again
+    returns)
