@@ -1,0 +1,4 @@
+pub mod Columns
+pub mod Laws
+pub mod Models
+pub mod Ring

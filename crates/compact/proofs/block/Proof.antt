@@ -1,0 +1,43 @@
+-- `compact::block` meets its contract: the first i rows are made. Assumes nothing.
+use Prim.Native.Nat.{ℕ, _-_, _*_}
+use native.Mathlib.Omega.{arith}
+use Rattle.definition.specs.Number.{zero64}
+use Rattle.definition.specs.Compact.{blockEntry, padded, zeroRow}
+use Rattle.area.specs.Area.{view}
+use Rattle.compact.specs.State.{compactOf}
+use Rattle.compact.proofs.Laws.{Padding, padding-none, padding-done, pairs-count, laws}
+use Rattle.compact.proofs.block.Statement.{statement}
+use Rattle.compact.proofs.block.Tie as tie
+
+abbrev Inv-loop : tie.InvT-loop
+Inv-loop area h theta size b₀ i₀ b i =
+    Padding zeroRow (2 * h .pairs) (λ (i : ℕ). padded zero64 (2 * h .pairs) (blockEntry (h .n) (compactOf h theta (view area (h .n))) i)) b i
+
+abbrev μ-loop : tie.MeasureT-loop
+μ-loop area h theta size b₀ i₀ b i = 2 * h .pairs - i
+
+loop-holds : tie.Need-loop-holds Inv-loop μ-loop
+loop-holds c = padding-none (omega arith) (c .zero-rows .ensures)
+
+loop-again : tie.Need-loop-again Inv-loop μ-loop
+loop-again c = search laws
+
+returns : tie.Need-returns Inv-loop μ-loop
+returns c = rw pairs-count (padding-done (c .before .loop .inv) (omega arith))
+
+pub block-spec : {M : Type 1} → statement M
+block-spec =
+    tie.close
+    (tie.spec
+    Inv-loop
+    μ-loop
+    (λ c. search laws)
+    (λ c κs. search laws)
+    loop-holds
+    (λ c κs. search laws)
+    (λ c. search laws)
+    (λ c. search laws)
+    (λ c. search laws)
+    (λ c. search laws)
+    loop-again
+    returns)

@@ -1,0 +1,36 @@
+-- `compact::lay_column` meets its contract, by the column's half. Assumes nothing.
+use native.Mathlib.Omega.{arith}
+use borrow.Author.Needs.{needs}
+use Rattle.compact.proofs.Laws.{vector-room}
+use Rattle.compact.proofs.Columns.{y-laid, s-laid}
+use Rattle.compact.proofs.lay_column.Statement.{statement}
+use Rattle.compact.proofs.lay_column.Tie as tie
+
+copy-requires : tie.Need-copy-requires
+copy-requires c κs = (vector-room _ (c .before .before .before .before .before .before .before .pre .0) (omega arith), c .before .pair-slot .ensures .second)
+
+scale-requires : tie.Need-scale-requires
+scale-requires c κs = (vector-room _ (c .before .before .before .before .before .before .before .before .pre .0) (omega arith), c .before .pair-slot2 .ensures .first)
+
+returns : tie.Need-returns
+returns c = y-laid _ _ _ _ _ _ (c .before .before .before .before .before .before .if1 .taken) (c .before .before .before .before .pair-slot .ensures) (c .before .before .copy .ensures)
+
+returns-2 : tie.Need-returns-2
+returns-2 c = s-laid _ _ _ _ _ _ (c .before .before .before .before .before .before .before .if1 .left) (c .before .before .before .before .pair-slot2 .ensures) (c .before .before .scale .ensures)
+
+pub lay-column-spec : {M : Type 1} → statement M
+lay-column-spec =
+    tie.close
+    (tie.spec
+    (λ c. search needs)
+    (λ c. search needs)
+    (λ c. search needs)
+    (λ c κs. search needs)
+    (λ c. search needs)
+    copy-requires
+    (λ c κs. search needs)
+    scale-requires
+    (λ c. search needs)
+    returns
+    (λ c. search needs)
+    returns-2)

@@ -1,0 +1,57 @@
+-- `compact::less_columns` meets its contract: vector p has lost the first k columns. Assumes nothing.
+use mathlib.Core.Path.{_≡_, refl, _∙_}
+use Prim.Native.Nat.{_-_, _*_}
+use native.Mathlib.Omega.{arith}
+use lib.ListN.{length}
+use Rattle.area.specs.Area.{view}
+use Rattle.area.proofs.Laws.{length-view}
+use Rattle.compact.proofs.Laws.{vector-room, laws}
+use Rattle.compact.proofs.Columns.{Lessened, lessened-none, lessened-more, lessened-done}
+use Rattle.compact.proofs.less_columns.Statement.{statement}
+use Rattle.compact.proofs.less_columns.Tie as tie
+
+abbrev Inv-loop : tie.InvT-loop
+Inv-loop area₀ h theta p q z size k₀ area k = Lessened h z p (view area₀ (h .n)) (view area (h .n)) k × (length area ≡ length area₀)
+
+abbrev μ-loop : tie.MeasureT-loop
+μ-loop area₀ h theta p q z size k₀ area k = 2 * h .pairs - k
+
+scale-requires : tie.Need-scale-requires Inv-loop μ-loop
+scale-requires c κs = (vector-room _ (c .before .before .before .pre .0) (omega arith), vector-room _ (c .before .before .before .pre .0) (omega arith))
+
+loop-holds : tie.Need-loop-holds Inv-loop μ-loop
+loop-holds c =
+    let s = rw (← c .before .area .given) at (c .before .before .before .before .before .before .pre .0) in
+    (lessened-none (length-view _ _ _ (vector-room _ s (omega arith))), refl)
+
+less-requires : tie.Need-less-requires Inv-loop μ-loop
+less-requires c κs =
+    let s = rw (← c .before .before .before .before .before .area .given, ← c .before .before .before .loop .inv .1) at (c .before .before .before .before .before .before .before .before .before .before .pre .0) in
+    (vector-room _ s (omega arith), vector-room _ s (omega arith))
+
+loop-again : tie.Need-loop-again Inv-loop μ-loop
+loop-again c = (lessened-more (c .before .before .before .before .before .before .loop .inv .0) (c .before .before .before .before .before .before .before .before .before .before .before .before .before .pre .2) (omega arith) (c .before .before .less .ensures), c .before .area2 .given ∙ c .before .before .before .before .before .before .loop .inv .1)
+
+returns : tie.Need-returns Inv-loop μ-loop
+returns c = lessened-done _ (c .before .before .before .before .before .before .before .before .pre .1) (c .before .before .before .before .before .before .before .before .pre .2) (c .before .before .before .before .scale .ensures) (c .before .loop .inv .0) (omega arith)
+
+pub less-columns-spec : {M : Type 1} → statement M
+less-columns-spec =
+    tie.close
+    (tie.spec
+    Inv-loop
+    μ-loop
+    (λ c. search laws)
+    scale-requires
+    loop-holds
+    (λ c. search laws)
+    (λ c. search laws)
+    (λ c. search laws)
+    (λ c. search laws)
+    (λ c. search laws)
+    less-requires
+    (λ c. search laws)
+    (λ c. search laws)
+    loop-again
+    (λ c. search laws)
+    returns)

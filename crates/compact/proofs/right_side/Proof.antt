@@ -1,0 +1,54 @@
+-- `compact::right_side` meets its contract: the first k products are made, from the columns as they stand. Assumes nothing.
+use mathlib.Core.Path.{_∙_}
+use Prim.Native.Nat.{_-_, _*_}
+use native.Mathlib.Omega.{arith}
+use denote.Ref.{now}
+use Rattle.definition.specs.Number.{zero64}
+use Rattle.definition.specs.Compact.{columnDot}
+use Rattle.area.specs.Area.{view}
+use Rattle.compact.specs.State.{compactOf}
+use Rattle.compact.proofs.Laws.{Padding, padding-none, padding-more, padding-done, pairs-count, vector-room, laws}
+use Rattle.compact.proofs.Columns.{laid-dot}
+use Rattle.compact.proofs.right_side.Statement.{statement}
+use Rattle.compact.proofs.right_side.Tie as tie
+
+abbrev Inv-loop : tie.InvT-loop
+Inv-loop area h theta q size r₀ k₀ r k =
+    Padding zero64 (2 * h .pairs) (λ k. columnDot (h .n) (compactOf h theta (view area (h .n))) k (view area (h .n) q)) r k
+
+abbrev μ-loop : tie.MeasureT-loop
+μ-loop area h theta q size r₀ k₀ r k = 2 * h .pairs - k
+
+loop-holds : tie.Need-loop-holds Inv-loop μ-loop
+loop-holds c = padding-none (omega arith) (c .zeros .ensures)
+
+dot-requires : tie.Need-dot-requires Inv-loop μ-loop
+dot-requires c κs = (vector-room _ (c .before .before .before .before .before .before .pre .0) (omega arith), vector-room _ (c .before .before .before .before .before .before .pre .0) (omega arith))
+
+loop-again : tie.Need-loop-again Inv-loop μ-loop
+loop-again c =
+    let a = c .before .before .before .before .before .before .before .args in
+    padding-more (c .before .before .before .loop .inv) (omega arith) (c .dot .ensures ∙ laid-dot (c .before .before .before .before .before .before .before .pre .1) _ (view (now (a .area)) (a .h .n) (a .q)) (omega arith))
+
+returns : tie.Need-returns Inv-loop μ-loop
+returns c = rw pairs-count (padding-done (c .before .loop .inv) (omega arith))
+
+pub right-side-spec : {M : Type 1} → statement M
+right-side-spec =
+    tie.close
+    (tie.spec
+    Inv-loop
+    μ-loop
+    (λ c. search laws)
+    (λ c κs. search laws)
+    loop-holds
+    (λ c. search laws)
+    (λ c. search laws)
+    (λ c. search laws)
+    dot-requires
+    (λ c. search laws)
+    (λ c. search laws)
+    (λ c. search laws)
+    (λ c. search laws)
+    loop-again
+    returns)

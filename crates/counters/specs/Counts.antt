@@ -1,0 +1,45 @@
+-- The definition's counters and terminations, read off the structs of the code.
+use Prim.Native.Nat.{ℕ, _<_}
+use mathlib.Core.Bool.{Bool, cond}
+use mathlib.Core.Option.{Option, none, some}
+use Rattle.definition.specs.Problem as P
+use Rattle.definition.specs.Counters as C
+use Rattle.counters.specs.declared.Counters.{Counters}
+use Rattle.counters.specs.declared.Charge.{Charge}
+use Rattle.counters.specs.declared.Charge.the-variants.{Spent, Charged}
+use Rattle.counters.specs.declared.Termination.{Termination}
+use Rattle.counters.specs.declared.Termination.the-variants.{GTol, FTol, MaxIterations, MaxEvaluations, Cancelled, Nonfinite, LineSearchFailed, ObjectiveFailed}
+
+abbrev pub countersOf : Counters → C.Counters
+countersOf k = record { nit = k .nit; nfev = k .nfev; njev = k .njev; drawn = k .drawn }
+
+abbrev pub terminationOf : Termination → C.Termination
+terminationOf GTol = C.Termination.gtol
+terminationOf FTol = C.Termination.ftol
+terminationOf MaxIterations = C.Termination.maxIterations
+terminationOf MaxEvaluations = C.Termination.maxEvaluations
+terminationOf Cancelled = C.Termination.cancelled
+terminationOf Nonfinite = C.Termination.nonfinite
+terminationOf LineSearchFailed = C.Termination.lineSearchFailed
+terminationOf ObjectiveFailed = C.Termination.objectiveFailed
+
+-- room for another of each count that no budget bounds where it is charged
+pub record Small (k : Counters) : Type 0 where
+  pub nit : k .nit < 0x4000_0000_0000_0000
+  pub njev : k .njev < 0x4000_0000_0000_0000
+  pub drawn : k .drawn < 0x4000_0000_0000_0000
+
+-- ---- a value question, charged only while the budget lasts
+
+abbrev pub valueCharged : P.Limits → C.Counters → C.Counters
+valueCharged l k = cond (C.valueLeft l k) (C.chargeValue k) k
+
+abbrev pub chargedIf : Bool → C.Counters → Option C.Counters
+chargedIf left k = cond left (some k) none
+
+abbrev pub valueCharge : P.Limits → C.Counters → Option C.Counters
+valueCharge l k = chargedIf (C.valueLeft l k) (C.chargeValue k)
+
+abbrev pub chargeOf : Charge → Option C.Counters
+chargeOf Spent = none
+chargeOf (Charged k) = some (countersOf k)
