@@ -10,3 +10,7 @@ pub mod Addition
 pub mod Descent
 pub mod Constants
 pub mod Steps
+pub mod Accepted
+pub mod Turn
+pub mod Leads
+pub mod Own

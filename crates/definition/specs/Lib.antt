@@ -15,3 +15,5 @@ pub mod History
 pub mod Programs
 pub mod Starred
 pub mod Replies
+pub mod Facts
+pub mod Points

@@ -1,0 +1,87 @@
+-- The words of the theorems on points and values, for an accepted setup and replies that were due. Lists of replies stand newest first.
+use Prim.Native.Nat.{ℕ}
+use mathlib.Core.Path.{_≡_}
+use mathlib.Core.Bool.{Bool, true, false, not, cond, _&&_}
+use mathlib.Core.List.{List, [], _∷_, _++_}
+use mathlib.Core.Option.{Option, none, some}
+use lib.Ieee.{Float}
+use Rattle.definition.specs.Number.{toFloat}
+use Rattle.definition.specs.Problem.{Setup, projectedStart}
+use Rattle.definition.specs.Gradient.{Probes}
+use Rattle.definition.specs.Machine.{Reply, Place, Side, Phase, Machine, question, unreported}
+use Rattle.definition.specs.Driver.{answer, run}
+use Rattle.definition.specs.Replies.{firstValue}
+
+-- there is a value, and no failure
+abbrev pub Reported : Setup → List Reply → Type 0
+Reported s rs = unreported (run s rs .phase) ≡ false
+
+-- ---- the point held and its value
+
+abbrev pub atNotice : Phase → Bool
+atNotice (Phase.value w) = false
+atNotice (Phase.gradient w) = false
+atNotice (Phase.probe w i side) = false
+atNotice Phase.notice = true
+atNotice (Phase.ended t) = false
+
+-- a trial is asked about: the step search asks its value
+abbrev pub atTrial : Phase → Bool
+atTrial (Phase.value Place.start) = false
+atTrial (Phase.value Place.trial) = true
+atTrial (Phase.gradient w) = false
+atTrial (Phase.probe w i side) = false
+atTrial Phase.notice = false
+atTrial (Phase.ended t) = false
+
+-- the reply takes the trial: the search hands back its step, and the driver moves there and gives notice
+abbrev pub takesTrial : Machine → Reply → Bool
+takesTrial m r = atNotice (answer m r .phase) && not (atNotice (m .phase))
+
+-- the last trial taken
+unfoldable pub lastTaken : Setup → List Reply → Option (List Float)
+lastTaken s [] = none
+lastTaken s (r ∷ rs) = cond (takesTrial (run s rs) r) (some (run s rs .trial .x)) (lastTaken s rs)
+
+-- none of the replies `later`, given after `earlier`, is of this kind
+abbrev pub NoneOf : (Machine → Reply → Bool) → Setup → List Reply → List Reply → Type 0
+NoneOf kind s [] earlier = Unit {0}
+NoneOf kind s (r ∷ later) earlier = (kind (run s (later ++ earlier)) r ≡ false) × NoneOf kind s later earlier
+
+-- Among the replies the value f was given at the point x, to that point's own value question: the start's, or a trial's.
+pub record GivenAt (place : Place) (s : Setup) (rs : List Reply) (x : List Float) (f : Float) : Type 0 where
+  pub word : ℕ
+  pub later : List Reply
+  pub earlier : List Reply
+  pub split : rs ≡ later ++ Reply.value word ∷ earlier
+  pub asked : run s earlier .phase ≡ Phase.value place
+  pub point : question (run s earlier) ≡ some (record { kind = 1; point = x })
+  pub value : f ≡ toFloat word
+
+-- The trial whose value was given after `earlier` is the last one taken:
+-- no other trial is asked about between its value and the reply that takes it, and no reply after that takes another.
+pub record TakenLast (s : Setup) (earlier later : List Reply) : Type 0 where
+  pub after : List Reply
+  pub taking : Reply
+  pub between : List Reply
+  pub split : later ≡ after ++ taking ∷ between
+  pub same : NoneOf (λ m r. atTrial (m .phase)) s between earlier
+  pub takes : takesTrial (run s (between ++ earlier)) taking ≡ true
+  pub last : NoneOf takesTrial s after (taking ∷ between ++ earlier)
+
+-- Where the point x and its value f come from, the option being the last trial taken:
+-- x is the clipped start and f the first value reply, or x is that trial and f the reply to its own question.
+abbrev pub OwnOf : Option (List Float) → Setup → List Reply → List Float → Float → Type 0
+OwnOf none s rs x f = (x ≡ projectedStart s) × (g : GivenAt Place.start s rs x f) × (firstValue rs ≡ some (g .word))
+OwnOf (some taken) s rs x f = (x ≡ taken) × (g : GivenAt Place.trial s rs x f) × TakenLast s (Reply.value (g .word) ∷ g .earlier) (g .later)
+
+-- ---- probes
+
+-- the probes of a coordinate ask on this side
+abbrev pub asks : Probes → Side → Bool
+asks Probes.neither side = false
+asks (Probes.both r l) side = true
+asks (Probes.rightOnly r) Side.right = true
+asks (Probes.rightOnly r) Side.left = false
+asks (Probes.leftOnly l) Side.right = false
+asks (Probes.leftOnly l) Side.left = true
