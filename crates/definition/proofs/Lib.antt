@@ -14,3 +14,7 @@ pub mod Accepted
 pub mod Turn
 pub mod Leads
 pub mod Own
+pub mod Trials
+pub mod Inside
+pub mod Sound
+pub mod Value

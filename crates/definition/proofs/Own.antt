@@ -67,6 +67,10 @@ module _ (H K N : List Float → Float → Type 0) where
 
 -- ---- what a list of replies says
 
+pub still-first : (o d : Option ℕ) (w : ℕ) → o ≡ some w → either o d ≡ some w
+still-first none d w e = let z : _≡_ {A = ℕ} 0 1 = cc in absurd (omega arith)
+still-first (some v) d w e = e
+
 module _ (s : Setup) where
   -- a trial whose value was given, and no other trial asked about since
   abbrev Tried : List Reply → List Float → Float → Type 0
@@ -93,10 +97,6 @@ module _ (s : Setup) where
     point = ap (questionIn (run s rs)) e;
     value = refl;
   }
-
-  still-first : (o d : Option ℕ) (w : ℕ) → o ≡ some w → either o d ≡ some w
-  still-first none d w e = let z : _≡_ {A = ℕ} 0 1 = cc in absurd (omega arith)
-  still-first (some v) d w e = e
 
   taken-later : (rs : List Reply) (r : Reply) (earlier later : List Reply) → rs ≡ later ++ earlier → takesTrial (run s rs) r ≡ false → TakenLast s earlier later → TakenLast s earlier (r ∷ later)
   taken-later rs r earlier later e q h = record {
@@ -239,3 +239,7 @@ own-in s o rs m (Phase.ended t) h e = h e
 
 pub held-is-own : (s : Setup) (rs : List Reply) → Due s rs → Reported s rs → OwnOf (lastTaken s rs) s rs (run s rs .held .x) (run s rs .held .f)
 held-is-own s rs d e = own-in s (lastTaken s rs) rs (run s rs) (run s rs .phase) (stages s rs d) e
+
+-- the start's value is asked before any reply
+pub start-asked-first : (s : Setup) (rs : List Reply) → Due s rs → run s rs .phase ≡ Phase.value Place.start → rs ≡ []
+start-asked-first s rs d e = subst (StageIn s (lastTaken s rs) rs (run s rs)) e (stages s rs d)

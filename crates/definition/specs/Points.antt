@@ -1,12 +1,16 @@
 -- The words of the theorems on points and values, for an accepted setup and replies that were due. Lists of replies stand newest first.
-use Prim.Native.Nat.{ℕ}
+use Prim.Native.Nat.{ℕ, _<_}
 use mathlib.Core.Path.{_≡_}
 use mathlib.Core.Bool.{Bool, true, false, not, cond, _&&_}
 use mathlib.Core.List.{List, [], _∷_, _++_}
 use mathlib.Core.Option.{Option, none, some}
-use lib.Ieee.{Float}
+use lib.Dec.{T}
+use lib.ListN.{set}
+use lib.Ieee.{Float, lt, le}
+use lib.Ieee.Scale.{finite}
 use Rattle.definition.specs.Number.{toFloat}
-use Rattle.definition.specs.Problem.{Setup, projectedStart}
+use Rattle.definition.specs.Vector.{word}
+use Rattle.definition.specs.Problem.{Setup, Bounds, Terms, projectedStart}
 use Rattle.definition.specs.Gradient.{Probes}
 use Rattle.definition.specs.Machine.{Reply, Place, Side, Phase, Machine, question, unreported}
 use Rattle.definition.specs.Driver.{answer, run}
@@ -75,6 +79,24 @@ abbrev pub OwnOf : Option (List Float) → Setup → List Reply → List Float �
 OwnOf none s rs x f = (x ≡ projectedStart s) × (g : GivenAt Place.start s rs x f) × (firstValue rs ≡ some (g .word))
 OwnOf (some taken) s rs x f = (x ≡ taken) × (g : GivenAt Place.trial s rs x f) × TakenLast s (Reply.value (g .word) ∷ g .earlier) (g .later)
 
+-- ---- the box
+
+-- v lies within the bounds of coordinate i
+abbrev pub Within : Bounds → ℕ → Float → Type 0
+Within b i v = T (le (word (b .lower) i) v) × T (le v (word (b .upper) i))
+
+-- each coordinate of x lies within its bounds
+abbrev pub InBox : Terms → List Float → Type 0
+InBox t x = (i : ℕ) → i < t .n → Within (t .bounds) i (word x i)
+
+-- each of the first n places of v is finite
+abbrev pub EachFinite : ℕ → List Float → Type 0
+EachFinite n v = (i : ℕ) → i < n → T (finite (word v i))
+
+-- the bounds are in order
+abbrev pub Ordered : Terms → Type 0
+Ordered t = (i : ℕ) → i < t .n → T (le (word (t .bounds .lower) i) (word (t .bounds .upper) i))
+
 -- ---- probes
 
 -- the probes of a coordinate ask on this side
@@ -85,3 +107,17 @@ asks (Probes.rightOnly r) Side.right = true
 asks (Probes.rightOnly r) Side.left = false
 asks (Probes.leftOnly l) Side.right = false
 asks (Probes.leftOnly l) Side.left = true
+
+-- v lies to the right, or to the left, of x
+abbrev pub beyond : Side → Float → Float → Bool
+beyond Side.right x v = lt x v
+beyond Side.left x v = lt v x
+
+-- The point is x with coordinate i moved to its side, to a finite value within the bounds.
+pub record ProbeOf (t : Terms) (x : List Float) (i : ℕ) (side : Side) (point : List Float) : Type 0 where
+  pub coordinate : i < t .n
+  pub to : Float
+  pub moved : point ≡ set x i to
+  pub finite : T (finite to)
+  pub beyond : T (beyond side (word x i) to)
+  pub within : Within (t .bounds) i to
