@@ -22,7 +22,7 @@ use Rattle.definition.proofs.Order.{NotNan, le-refl, le-trans, le-of-lt
 use Rattle.definition.proofs.Finite.{finite-not-nan, plus-not-nan, times-not-nan}
 use Rattle.definition.proofs.Vectors.{foldTo-each, getD-tab}
 use Rattle.definition.proofs.Trials.{both-hold, holds}
-use Rattle.definition.proofs.Turn.{by-test}
+use Rattle.definition.proofs.Turns.{by-test}
 
 -- ---- the bounds and the start of an accepted setup
 
@@ -79,10 +79,10 @@ pub start-in-box : (s : Setup) → Accepted s → InBox (termsOf s) (projectedSt
 unfolding projectedStart
 start-in-box s a = tab-in-box (termsOf s) (word (s .x0)) (accepted-ordered s a) (λ i l. finite-not-nan (word (s .x0) i) (x0-finite s a i l))
 
-pub trial-in-box : (t : Terms) (x d : List Float) (alpha : Float) → Ordered t → EachFinite (t .n) x → EachFinite (t .n) d → T (finite alpha)
+pub line-in-box : (t : Terms) (x d : List Float) (alpha : Float) → Ordered t → EachFinite (t .n) x → EachFinite (t .n) d → T (finite alpha)
     → InBox t (trialPoint (t .n) (t .bounds) x d alpha)
 unfolding trialPoint
-trial-in-box t x d alpha o p q a =
+line-in-box t x d alpha o p q a =
     tab-in-box t (λ i. plus (word x i) (times alpha (word d i))) o (λ i l. plus-not-nan (word x i) (times alpha (word d i)) (p i l) (times-not-nan alpha (word d i) a (q i l)))
 
 -- ---- probes

@@ -11,10 +11,11 @@ pub mod Descent
 pub mod Constants
 pub mod Steps
 pub mod Accepted
-pub mod Turn
+pub mod Turns
 pub mod Leads
 pub mod Own
 pub mod Trials
 pub mod Inside
 pub mod Sound
 pub mod Value
+pub mod Box

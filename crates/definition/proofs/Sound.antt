@@ -25,8 +25,8 @@ use Rattle.definition.proofs.Vectors.{getD-tab}
 use Rattle.definition.proofs.Finite.{finite-not-nan, minus-terms-finite, words-finite}
 use Rattle.definition.proofs.Steps.{at-most-finite}
 use Rattle.definition.proofs.Trials.{holds, Running, accepted-not-above, begun-running, next-running}
-use Rattle.definition.proofs.Inside.{accepted-ordered, start-in-box, trial-in-box}
-use Rattle.definition.proofs.Turn.{aiming}
+use Rattle.definition.proofs.Inside.{accepted-ordered, start-in-box, line-in-box}
+use Rattle.definition.proofs.Turns.{aiming}
 use Rattle.definition.proofs.Leads.{Leads, Known, answer-leads}
 
 -- ---- what is known
@@ -103,7 +103,7 @@ module _ (s : Setup) (ordered : Ordered (termsOf s)) (b : Machine) where
     record {
       terms = p .terms;
       held = p .held;
-      trial = trial-in-box (m .terms) (m .held .x) (m .direction) (r .alpha) (ordered-in (m .terms) (p .terms)) (k .point) (k .direction) (at-most-finite 10_000_000_000 (r .alpha) (k .search .alpha));
+      trial = line-in-box (m .terms) (m .held .x) (m .direction) (r .alpha) (ordered-in (m .terms) (p .terms)) (k .point) (k .direction) (at-most-finite 10_000_000_000 (r .alpha) (k .search .alpha));
     },
     l,
     h,

@@ -22,7 +22,7 @@ use Rattle.definition.proofs.Sign.{unsigned, signed, unsigned-of-lt, si
 use Rattle.definition.proofs.Finite.{finite-not-nan, times-not-nan, dot-factors-finite}
 use Rattle.definition.proofs.Descent.{trial-not-above}
 use Rattle.definition.proofs.Steps.{at-most-finite, at-most-unsigned, le-at-most, Step, half-step, sum-step, step-cond, min-step}
-use Rattle.definition.proofs.Turn.{by-test}
+use Rattle.definition.proofs.Turns.{by-test}
 
 -- what a test that passed says
 pub holds : {b : Bool} → b ≡ true → T b
@@ -167,7 +167,7 @@ module _ (r : Search) (f v slope : Float) (h : Running r) where
 
 -- ---- as facts of the search that is handed on
 
-given-some : {A : Type 0} (P : A → Type 0) (o : Option A) {a : A} → IfGiven P o → o ≡ some a → P a
+pub given-some : {A : Type 0} (P : A → Type 0) (o : Option A) {a : A} → IfGiven P o → o ≡ some a → P a
 given-some P o h e = rw e at h
 
 pub begun-running : (n : ℕ) (b : Bounds) (x g d : List Float) (r : Search) → beginSearch n b x g d ≡ some r → EachFinite n d × Running r

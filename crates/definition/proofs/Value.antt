@@ -16,7 +16,7 @@ use Rattle.definition.specs.Points.{Reported}
 use Rattle.definition.proofs.Accepted.{due-taken}
 use Rattle.definition.proofs.Order.{le-refl, le-trans}
 use Rattle.definition.proofs.Finite.{finite-not-nan}
-use Rattle.definition.proofs.Turn.{by-test, none-suits}
+use Rattle.definition.proofs.Turns.{by-test, none-suits}
 use Rattle.definition.proofs.Own.{still-first, start-asked-first}
 use Rattle.definition.proofs.Sound.{next-value}
 

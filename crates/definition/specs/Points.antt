@@ -8,7 +8,7 @@ use lib.Dec.{T}
 use lib.ListN.{set}
 use lib.Ieee.{Float, lt, le}
 use lib.Ieee.Scale.{finite}
-use Rattle.definition.specs.Number.{toFloat}
+use Rattle.definition.specs.Number.{toFloat, zero64, stepLimit}
 use Rattle.definition.specs.Vector.{word}
 use Rattle.definition.specs.Problem.{Setup, Bounds, Terms, projectedStart}
 use Rattle.definition.specs.Gradient.{Probes}
@@ -29,10 +29,13 @@ atNotice (Phase.probe w i side) = false
 atNotice Phase.notice = true
 atNotice (Phase.ended t) = false
 
+abbrev pub isTrial : Place → Bool
+isTrial Place.start = false
+isTrial Place.trial = true
+
 -- a trial is asked about: the step search asks its value
 abbrev pub atTrial : Phase → Bool
-atTrial (Phase.value Place.start) = false
-atTrial (Phase.value Place.trial) = true
+atTrial (Phase.value w) = isTrial w
 atTrial (Phase.gradient w) = false
 atTrial (Phase.probe w i side) = false
 atTrial Phase.notice = false
@@ -96,6 +99,23 @@ EachFinite n v = (i : ℕ) → i < n → T (finite (word v i))
 -- the bounds are in order
 abbrev pub Ordered : Terms → Type 0
 Ordered t = (i : ℕ) → i < t .n → T (le (word (t .bounds .lower) i) (word (t .bounds .upper) i))
+
+-- ---- the search
+
+-- a search runs: a value, the gradient or a probe is asked at its trial
+abbrev pub searching : Phase → Bool
+searching (Phase.value w) = isTrial w
+searching (Phase.gradient w) = isTrial w
+searching (Phase.probe w i side) = isTrial w
+searching Phase.notice = false
+searching (Phase.ended t) = false
+
+-- While it runs the point held and the direction are finite, and the step is positive and at most 10 ^ 10.
+pub record SearchRuns (n : ℕ) (x direction : List Float) (step : Float) : Type 0 where
+  pub point : EachFinite n x
+  pub finite : EachFinite n direction
+  pub positive : T (lt zero64 step)
+  pub atMost : T (le step stepLimit)
 
 -- ---- probes
 
