@@ -4,7 +4,7 @@ use Prim.Native.Nat.{ℕ, _<_}
 use mathlib.Core.Path.{_≡_, refl, sym, ap, _∙_, subst}
 use mathlib.Core.Bool.{Bool, true, false, _||_, false≢true}
 use mathlib.Core.List.{List}
-use mathlib.Core.Option.{some}
+use mathlib.Core.Option.{Option, some}
 use lib.Ieee.{Float, isNan}
 use lib.Ieee.Bits.{is-false}
 use Rattle.definition.specs.Vector.{word}
@@ -17,13 +17,16 @@ use Rattle.definition.specs.Replies.{Accepted, Due}
 use Rattle.definition.specs.Facts.{IfGiven}
 use Rattle.definition.specs.Points.{atNotice, isTrial, searching, InBox, EachFinite, SearchRuns, ProbeOf}
 use Rattle.definition.proofs.Order.{le-right-not-nan}
-use Rattle.definition.proofs.Trials.{step-le-limit, given-some}
+use Rattle.definition.proofs.Trials.{step-le-limit}
 use Rattle.definition.proofs.Inside.{probe-of, probe-in-box}
 use Rattle.definition.proofs.Sound.{Standing, Line, ReadyAt, FactsIn, sound}
 
 or-false : (b : Bool) → b || false ≡ true → b ≡ true
 or-false true e = refl
 or-false false e = e
+
+given-some : {A : Type 0} (P : A → Type 0) (o : Option A) {a : A} → IfGiven P o → o ≡ some a → P a
+given-some P o h e = rw e at h
 
 -- ---- in the machine's own terms
 

@@ -126,7 +126,7 @@ module _ (s : Setup) (ordered : Ordered (termsOf s)) (b : Machine) where
   next-aimed m r h q =
       let k = h .2 .1 in
       aimed m r (h .0) (h .1) (h .2 .0)
-      (record { point = k .point; direction = k .direction; search = next-running (m .search) (m .held .f) (m .trial .f) (dot (m .terms .n) (m .trial .g) (m .direction)) r (k .search) q })
+      (record { point = k .point; direction = k .direction; search = next-running (m .search) (m .held .f) (m .trial .f) (dot (m .terms .n) (m .trial .g) (m .direction)) (k .search) r q })
 
   -- the trial is held
   settled : (m : Machine) → PlacedAt s m → Low (m .held .f) → Number (m .trial .f) → T (le (m .trial .f) (m .held .f)) → gradientFinite m ≡ true

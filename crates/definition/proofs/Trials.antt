@@ -2,7 +2,7 @@
 use Prim.Native.Nat.{ℕ, zero, suc}
 use native.Mathlib.Omega.{arith}
 use mathlib.Core.Path.{_≡_, refl, sym, subst}
-use mathlib.Core.Bool.{Bool, true, false, not, _&&_, _||_, false≢true}
+use mathlib.Core.Bool.{Bool, true, false, not, cond, _&&_, _||_}
 use mathlib.Core.List.{List}
 use mathlib.Core.Option.{Option, none, some}
 use mathlib.Core.Logic.{inl, inr}
@@ -93,38 +93,35 @@ limit-low (suc n) b x d =
     by-test (λ (k : Limit). T (le (k .amax) stepLimit)) (finite t && le t (l .amax))
     (λ e. le-trans t (l .amax) stepLimit (both-hold (finite t) (le t (l .amax)) e .1) h) (λ _. h)
 
+-- what is handed on passed its test
+passed : {A : Type 0} (t : Bool) (o : Option A) {a : A} → cond t o none ≡ some a → T t × (o ≡ some a)
+passed true o e = (tt, e)
+passed false o e = let z : _≡_ {A = ℕ} 0 1 = cc in absurd (omega arith)
+
+same-given : {A : Type 0} (P : A → Type 0) (a b : A) → some a ≡ some b → P a → P b
+same-given P a b e h = let q : a ≡ b = cc in rw q at h
+
 -- a search that begins
-begin-running : (n : ℕ) (b : Bounds) (x g d : List Float) → IfGiven (λ (r : Search). EachFinite n d × Running r) (beginSearch n b x g d)
+pub begun-running : (n : ℕ) (b : Bounds) (x g d : List Float) (r : Search) → beginSearch n b x g d ≡ some r → EachFinite n d × Running r
 unfolding beginSearch lt
-begin-running n b x g d = by-test P (finite slope && lt slope zero64) first (λ _. tt)
-  where
-    slope : Float
-    slope = dot n g d
-
-    l : Limit
-    l = limitOf n b x d
-
-    P : Option Search → Type 0
-    P = IfGiven (λ (r : Search). EachFinite n d × Running r)
-
-    first : finite slope && lt slope zero64 ≡ true → P (withLimit slope l)
-    first e = by-test P (finite (l .amax) && lt zero64 (l .amax)) limits (λ _. tt)
-      where
-        limits : finite (l .amax) && lt zero64 (l .amax) ≡ true → P (some (firstSearch slope l))
-        limits q =
-            let s = both-hold (finite slope) (lt slope zero64) e in
-            let p = both-hold (finite (l .amax)) (lt zero64 (l .amax)) q .1 in
-            let a : Step (l .amax) = le-at-most 10_000_000_000 (l .amax) stepLimit (unsigned-of-lt (l .amax) p) limit-step (limit-low n b x d) in (
-              (λ i k. dot-factors-finite n g d (s .0) i k .1),
-              record {
-                alpha = min-step one64 (l .amax) tt a;
-                positive = min-positive one64 (l .amax) tt p;
-                low = omega arith;
-                high = tt;
-                amax = a;
-                slope = signed-of-lt slope (s .1);
-              },
-            )
+begun-running n b x g d r e =
+    let slope = dot n g d in
+    let l = limitOf n b x d in
+    let p = passed (finite slope && lt slope zero64) (withLimit slope l) e in
+    let q = passed (finite (l .amax) && lt zero64 (l .amax)) (some (firstSearch slope l)) (p .1) in
+    let whole = and-l (finite slope) (lt slope zero64) (p .0) in
+    let down = and-r (finite slope) (lt slope zero64) (p .0) in
+    let up = and-r (finite (l .amax)) (lt zero64 (l .amax)) (q .0) in
+    let a : Step (l .amax) = le-at-most 10_000_000_000 (l .amax) stepLimit (unsigned-of-lt (l .amax) up) limit-step (limit-low n b x d) in
+    let first : Running (firstSearch slope l) = record {
+      alpha = min-step one64 (l .amax) tt a;
+      positive = min-positive one64 (l .amax) tt up;
+      low = omega arith;
+      high = tt;
+      amax = a;
+      slope = signed-of-lt slope down;
+    } in
+    ((λ i k. dot-factors-finite n g d whole i k .1), same-given Running (firstSearch slope l) r (q .1) first)
 
 -- the trial after one that is not accepted
 module _ (r : Search) (f v slope : Float) (h : Running r) where
@@ -138,40 +135,29 @@ module _ (r : Search) (f v slope : Float) (h : Running r) where
   following-step low none p q = min-step (times (r .alpha) two64) (r .amax) (twice-unsigned (r .alpha) (h .alpha)) (h .amax)
   following-step low (some high) p q = half-step (plus low high) (sum-step low high p q)
 
-  after-running : IfGiven Running (afterTrial r f v slope)
+  pub next-running : (q : Search) → afterTrial r f v slope ≡ some q → Running q
   unfolding afterTrial
-  after-running = by-test (IfGiven Running) (goesOn r next) (λ e. record {
-    alpha = step;
-    positive = step-positive next step (not-zero (eq next (r .alpha)) (eq next zero64) (leb searchTrials (r .trials)) e);
-    low = low-step;
-    high = high-step;
-    amax = h .amax;
-    slope = h .slope;
-  }) (λ _. tt)
+  next-running q e =
+      let low = lowAfter r f v slope in
+      let high = highAfter r f v slope in
+      let next = following r low high in
+      let step = following-step low high low-step high-step in
+      let p = passed (goesOn r next) _ e in
+      same-given Running _ q (p .1) (record {
+        alpha = step;
+        positive = step-positive next step (not-zero (eq next (r .alpha)) (eq next zero64) (leb searchTrials (r .trials)) (p .0));
+        low = low-step;
+        high = high-step;
+        amax = h .amax;
+        slope = h .slope;
+      })
     where
-      next : Float
-      next = following r (lowAfter r f v slope) (highAfter r f v slope)
-
-      step : Step next
-      step = following-step (lowAfter r f v slope) (highAfter r f v slope) low-step high-step
-
-      not-zero : (a b c : Bool) → not (a || b || c) ≡ true → b ≡ false
-      not-zero true b c e = absurd (false≢true e)
-      not-zero false true c e = absurd (false≢true e)
+      not-zero : (a b c : Bool) → T (not (a || b || c)) → b ≡ false
+      not-zero true b c e = absurd e
+      not-zero false true c e = absurd e
       not-zero false false c e = refl
 
   -- an accepted trial does not rise
   pub accepted-not-above : T (fits binary64 f) → T (finite f) → accepts r f v slope ≡ true → T (le v f)
   unfolding accepts
   accepted-not-above p q e = trial-not-above v f (r .alpha) (r .slope0) p q (at-most-unsigned 10_000_000_000 (r .alpha) (h .alpha)) (h .slope) (both-hold (decreases r f v) (flat r slope || onFace r f v) e .0)
-
--- ---- as facts of the search that is handed on
-
-pub given-some : {A : Type 0} (P : A → Type 0) (o : Option A) {a : A} → IfGiven P o → o ≡ some a → P a
-given-some P o h e = rw e at h
-
-pub begun-running : (n : ℕ) (b : Bounds) (x g d : List Float) (r : Search) → beginSearch n b x g d ≡ some r → EachFinite n d × Running r
-begun-running n b x g d r e = given-some (λ (q : Search). EachFinite n d × Running q) (beginSearch n b x g d) (begin-running n b x g d) e
-
-pub next-running : (q : Search) (f v slope : Float) (r : Search) → Running q → afterTrial q f v slope ≡ some r → Running r
-next-running q f v slope r h e = given-some Running (afterTrial q f v slope) (after-running q f v slope h) e
