@@ -1,8 +1,8 @@
 -- Every point held or asked about lies within the box, and so has no NaN; where a search runs, what it rests on is finite. Assumes nothing.
 -- In an open box a coordinate may still be infinite: of a trial, and of the point held once such a trial is taken.
 use Prim.Native.Nat.{ℕ, _<_}
-use mathlib.Core.Path.{_≡_, refl, sym, ap, _∙_, subst}
-use mathlib.Core.Bool.{Bool, true, false, _||_, false≢true}
+use mathlib.Core.Path.{_≡_, sym, ap, _∙_, subst}
+use mathlib.Core.Bool.{true, false, false≢true}
 use mathlib.Core.List.{List}
 use mathlib.Core.Option.{Option, some}
 use lib.Ieee.{Float, isNan}
@@ -15,15 +15,11 @@ use Rattle.definition.specs.Machine.{Reply, Question, State, Place, Side
 use Rattle.definition.specs.Driver.{run}
 use Rattle.definition.specs.Replies.{Accepted, Due}
 use Rattle.definition.specs.Facts.{IfGiven}
-use Rattle.definition.specs.Points.{atNotice, isTrial, searching, InBox, EachFinite, SearchRuns, ProbeOf}
+use Rattle.definition.specs.Points.{isTrial, searching, InBox, EachFinite, SearchRuns, ProbeOf}
 use Rattle.definition.proofs.Order.{le-right-not-nan}
 use Rattle.definition.proofs.Trials.{step-le-limit}
 use Rattle.definition.proofs.Inside.{probe-of, probe-in-box}
-use Rattle.definition.proofs.Sound.{Standing, Line, ReadyAt, FactsIn, sound}
-
-or-false : (b : Bool) → b || false ≡ true → b ≡ true
-or-false true e = refl
-or-false false e = e
+use Rattle.definition.proofs.Sound.{Line, AtPlace, FactsIn, sound}
 
 given-some : {A : Type 0} (P : A → Type 0) (o : Option A) {a : A} → IfGiven P o → o ≡ some a → P a
 given-some P o h e = rw e at h
@@ -42,24 +38,17 @@ asked-in m (Phase.probe w i side) h t f = probe-in-box (m .terms) (m .trial .x) 
 asked-in m Phase.notice h t f = h
 asked-in m (Phase.ended e) h t f = tt
 
-trial-ready : (w : Place) (t : Terms) (h : State) (v : Float) (d : List Float) (r : Search) → ReadyAt w t h v d r → isTrial w ≡ true → Standing t h × Line t h d r
+trial-ready : (w : Place) (t : Terms) (h : State) (v : Float) (d : List Float) (r : Search) → AtPlace w t h v d r → isTrial w ≡ true → Line t h d r
 trial-ready Place.start t h v d r k e = absurd (false≢true e)
-trial-ready Place.trial t h v d r k e = (k .0, k .1)
+trial-ready Place.trial t h v d r k e = k
 
-search-in : (m : Machine) (p : Phase) → FactsIn m p → searching p ≡ true → Standing (m .terms) (m .held) × Line (m .terms) (m .held) (m .direction) (m .search)
-search-in m (Phase.value Place.start) f e = absurd (false≢true e)
-search-in m (Phase.value Place.trial) f e = f
-search-in m (Phase.gradient w) f e = trial-ready w (m .terms) (m .held) (m .trial .f) (m .direction) (m .search) f e
-search-in m (Phase.probe w i side) f e = trial-ready w (m .terms) (m .held) (m .trial .f) (m .direction) (m .search) (f .0) e
-search-in m Phase.notice f e = absurd (false≢true e)
-search-in m (Phase.ended t) f e = absurd (false≢true e)
-
-standing-in : (m : Machine) (p : Phase) → FactsIn m p → searching p || atNotice p ≡ true → Standing (m .terms) (m .held)
-standing-in m (Phase.value w) f e = search-in m (Phase.value w) f (or-false (isTrial w) e) .0
-standing-in m (Phase.gradient w) f e = search-in m (Phase.gradient w) f (or-false (isTrial w) e) .0
-standing-in m (Phase.probe w i side) f e = search-in m (Phase.probe w i side) f (or-false (isTrial w) e) .0
-standing-in m Phase.notice f e = f
-standing-in m (Phase.ended t) f e = absurd (false≢true e)
+line-in : (m : Machine) (p : Phase) → FactsIn m p → searching p ≡ true → Line (m .terms) (m .held) (m .direction) (m .search)
+line-in m (Phase.value Place.start) f e = absurd (false≢true e)
+line-in m (Phase.value Place.trial) f e = f
+line-in m (Phase.gradient w) f e = trial-ready w (m .terms) (m .held) (m .trial .f) (m .direction) (m .search) (f .place) e
+line-in m (Phase.probe w i side) f e = trial-ready w (m .terms) (m .held) (m .trial .f) (m .direction) (m .search) (f .0 .place) e
+line-in m Phase.notice f e = absurd (false≢true e)
+line-in m (Phase.ended t) f e = absurd (false≢true e)
 
 in-box-not-nan : (t : Terms) (x : List Float) → InBox t x → (i : ℕ) → i < t .n → isNan (word x i) ≡ false
 in-box-not-nan t x h i l = is-false (isNan (word x i)) (le-right-not-nan (word (t .bounds .lower) i) (word x i) (h i l .0))
@@ -82,8 +71,8 @@ module _ (s : Setup) (rs : List Reply) (accepted : Accepted s) (due : Due s rs) 
   pub asked-in-box : (q : Question) → question (run s rs) ≡ some q → InBox (termsOf s) (q .point)
   asked-in-box q e =
       let h = sound s accepted rs due in
-      in-terms (λ (t : Terms). InBox t (q .point))
-      (given-some (λ (k : Question). InBox (m .terms) (k .point)) (question m) (asked-in m (m .phase) (h .placed .held) (h .placed .trial) (h .facts)) e)
+      let found = asked-in m (m .phase) (h .placed .held) (h .placed .trial) (h .facts) in
+      in-terms (λ (t : Terms). InBox t (q .point)) (given-some (λ (k : Question). InBox (m .terms) (k .point)) (question m) found e)
 
   -- so no coordinate is a NaN
   pub held-not-nan : (i : ℕ) → i < dimension s → isNan (word (run s rs .held .x) i) ≡ false
@@ -92,23 +81,28 @@ module _ (s : Setup) (rs : List Reply) (accepted : Accepted s) (due : Due s rs) 
   pub asked-not-nan : (q : Question) → question (run s rs) ≡ some q → (i : ℕ) → i < dimension s → isNan (word (q .point) i) ≡ false
   asked-not-nan q e = in-box-not-nan (termsOf s) (q .point) (asked-in-box q e)
 
-  pub probe-finite : (w : Place) (i : ℕ) (side : Side) → run s rs .phase ≡ Phase.probe w i side → (q : Question) → question (run s rs) ≡ some q
+  -- a probe moves one coordinate, to a finite value
+  pub probe-finite :
+      (w : Place) (i : ℕ) (side : Side) → run s rs .phase ≡ Phase.probe w i side → (q : Question) → question (run s rs) ≡ some q
       → ProbeOf (termsOf s) (run s rs .trial .x) i side (q .point)
   probe-finite w i side e q k =
+      let P : Terms → Question → Type 0 = λ t z. ProbeOf t (m .trial .x) i side (z .point) in
       let h = sound s accepted rs due in
-      let asked : questionIn m (Phase.probe w i side) ≡ some q = ap (questionIn m) (sym e) ∙ k in
-      in-terms (λ (t : Terms). ProbeOf t (m .trial .x) i side (q .point))
-      (given-some (λ (z : Question). ProbeOf (m .terms) (m .trial .x) i side (z .point)) (questionIn m (Phase.probe w i side)) (probe-in m w i side (h .placed .trial) (subst (FactsIn m) e (h .facts))) asked)
+      let found = probe-in m w i side (h .placed .trial) (subst (FactsIn m) e (h .facts)) in
+      in-terms (λ (t : Terms). P t q) (given-some (P (m .terms)) (questionIn m (Phase.probe w i side)) found (ap (questionIn m) (sym e) ∙ k))
 
-  pub held-gradient-finite : searching (run s rs .phase) || atNotice (run s rs .phase) ≡ true → EachFinite (dimension s) (run s rs .held .g)
-  held-gradient-finite e = in-terms (λ (t : Terms). EachFinite (t .n) (m .held .g)) (standing-in m (m .phase) (sound s accepted rs due .facts) e .gradient)
-
-  pub search-runs : searching (run s rs .phase) ≡ true → SearchRuns (dimension s) (run s rs .held .x) (run s rs .direction) (run s rs .search .alpha)
+  pub search-runs : searching (run s rs .phase) ≡ true → SearchRuns (dimension s) (run s rs)
   search-runs e =
-      let k = search-in m (m .phase) (sound s accepted rs due .facts) e .1 in
+      let k = line-in m (m .phase) (sound s accepted rs due .facts) e in
+      let P : List Float → Terms → Type 0 = λ v t. EachFinite (t .n) v in
       record {
-        point = in-terms (λ (t : Terms). EachFinite (t .n) (m .held .x)) (k .point);
-        finite = in-terms (λ (t : Terms). EachFinite (t .n) (m .direction)) (k .direction);
+        point = in-terms (P (m .held .x)) (k .point);
+        gradient = in-terms (P (m .held .g)) (k .standing .gradient);
+        direction = in-terms (P (m .direction)) (k .direction);
         positive = k .search .positive;
         atMost = step-le-limit (m .search .alpha) (k .search .alpha);
       }
+
+  pub notice-gradient-finite : run s rs .phase ≡ Phase.notice → EachFinite (dimension s) (run s rs .held .g)
+  notice-gradient-finite e =
+      in-terms (λ (t : Terms). EachFinite (t .n) (m .held .g)) (subst (FactsIn m) e (sound s accepted rs due .facts) .gradient)

@@ -36,7 +36,7 @@ pub record Number (v : Float) : Type 0 where
   pub fitting : T (fits binary64 v)
   pub whole : T (finite v)
 
--- both points lie in the box
+-- the point held and the trial lie in the box
 pub record Placed (s : Setup) (t : Terms) (x y : List Float) : Type 0 where
   pub terms : t ≡ termsOf s
   pub held : InBox t x
@@ -49,32 +49,50 @@ pub record Standing (t : Terms) (h : State) : Type 0 where
 
 -- a search runs from there along d
 pub record Line (t : Terms) (h : State) (d : List Float) (r : Search) : Type 0 where
+  pub standing : Standing t h
   pub point : EachFinite (t .n) (h .x)
   pub direction : EachFinite (t .n) d
   pub search : Running r
 
--- v is the value at the place where the gradient is gathered
-abbrev pub ReadyAt : Place → Terms → State → Float → List Float → Search → Type 0
-ReadyAt Place.start t h v d r = Number (h .f) × Number v × T (le v (h .f))
-ReadyAt Place.trial t h v d r = Standing t h × Line t h d r × Number v
+abbrev LineOf : Machine → Type 0
+LineOf m = Line (m .terms) (m .held) (m .direction) (m .search)
 
-abbrev pub Ready : Place → Machine → Type 0
-Ready w m = ReadyAt w (m .terms) (m .held) (m .trial .f) (m .direction) (m .search)
+-- the gradient is gathered at a place, where the value is v
+abbrev pub AtPlace : Place → Terms → State → Float → List Float → Search → Type 0
+AtPlace Place.start t h v d r = T (le v (h .f))
+AtPlace Place.trial t h v d r = Line t h d r
+
+pub record Ready (w : Place) (t : Terms) (h : State) (v : Float) (d : List Float) (r : Search) : Type 0 where
+  pub value : Number (h .f)
+  pub found : Number v
+  pub place : AtPlace w t h v d r
+
+abbrev ReadyOf : Place → Machine → Type 0
+ReadyOf w m = Ready w (m .terms) (m .held) (m .trial .f) (m .direction) (m .search)
 
 abbrev pub FactsIn : Machine → Phase → Type 0
 FactsIn m (Phase.value Place.start) = Unit {0}
-FactsIn m (Phase.value Place.trial) = Standing (m .terms) (m .held) × Line (m .terms) (m .held) (m .direction) (m .search)
-FactsIn m (Phase.gradient w) = Ready w m
-FactsIn m (Phase.probe w i side) = Ready w m × (i < m .terms .n) × (asks (probesAt (m .terms) (m .trial .x) i) side ≡ true)
+FactsIn m (Phase.value Place.trial) = LineOf m
+FactsIn m (Phase.gradient w) = ReadyOf w m
+FactsIn m (Phase.probe w i side) = ReadyOf w m × (i < m .terms .n) × (asks (probesAt (m .terms) (m .trial .x) i) side ≡ true)
 FactsIn m Phase.notice = Standing (m .terms) (m .held)
 FactsIn m (Phase.ended t) = Unit {0}
 
-abbrev PlacedAt : Setup → Machine → Type 0
-PlacedAt s m = Placed s (m .terms) (m .held .x) (m .trial .x)
+abbrev PlacedOf : Setup → Machine → Type 0
+PlacedOf s m = Placed s (m .terms) (m .held .x) (m .trial .x)
 
 pub record Sound (s : Setup) (m : Machine) : Type 0 where
   pub placed : Placed s (m .terms) (m .held .x) (m .trial .x)
   pub facts : FactsIn m (m .phase)
+
+abbrev slopeOf : Machine → Float
+slopeOf m = dot (m .terms .n) (m .trial .g) (m .direction)
+
+-- a finite direction leads from a finite point
+finite-start : (n : ℕ) (end x d : List Float) → d ≡ difference n end x → EachFinite n d → EachFinite n x
+finite-start n end x d e h i l =
+    let same = ap (λ (v : List Float). word v i) e ∙ getD-tab n (λ j. minus (word end j) (word x j)) i _ l in
+    minus-terms-finite (word end i) (word x i) (subst (λ (v : Float). T (finite v)) same (h i l)) .1
 
 -- ---- a step from the machine b
 
@@ -84,52 +102,42 @@ module _ (s : Setup) (ordered : Ordered (termsOf s)) (b : Machine) where
   Low v = unreported (b .phase) ≡ false → Number v × T (le v (b .held .f))
 
   abbrev Gathering : Place → Machine → Type 0
-  Gathering w m = PlacedAt s m × Low (m .held .f) × Ready w m
+  Gathering w m = PlacedOf s m × Low (m .held .f) × ReadyOf w m
 
   abbrev Seeking : Machine → Type 0
-  Seeking m = PlacedAt s m × Low (m .held .f) × Standing (m .terms) (m .held)
+  Seeking m = PlacedOf s m × Low (m .held .f) × Standing (m .terms) (m .held)
 
   abbrev Aimed : Machine → Type 0
-  Aimed m = PlacedAt s m × Low (m .held .f) × Standing (m .terms) (m .held) × Line (m .terms) (m .held) (m .direction) (m .search)
+  Aimed m = PlacedOf s m × Low (m .held .f) × LineOf m
 
   abbrev Next : Machine → Type 0
-  Next m = PlacedAt s m × Low (m .held .f) × FactsIn m (m .phase)
+  Next m = PlacedOf s m × Low (m .held .f) × FactsIn m (m .phase)
 
-  ordered-in : (t : Terms) → t ≡ termsOf s → Ordered t
-  ordered-in t e = subst Ordered (sym e) ordered
+  aimed : (m : Machine) (r : Search) → PlacedOf s m → Low (m .held .f) → Line (m .terms) (m .held) (m .direction) r → Aimed (aiming r m)
+  aimed m r p l k =
+      let ordered-here = subst Ordered (sym (p .terms)) ordered in
+      let alpha = at-most-finite 10_000_000_000 (r .alpha) (k .search .alpha) in
+      let trial = line-in-box (m .terms) (m .held .x) (m .direction) (r .alpha) ordered-here (k .point) (k .direction) alpha in
+      (record { terms = p .terms; held = p .held; trial = trial }, l, k)
 
-  aimed : (m : Machine) (r : Search) → PlacedAt s m → Low (m .held .f) → Standing (m .terms) (m .held) → Line (m .terms) (m .held) (m .direction) r → Aimed (aiming r m)
-  aimed m r p l h k = (
-    record {
-      terms = p .terms;
-      held = p .held;
-      trial = line-in-box (m .terms) (m .held .x) (m .direction) (r .alpha) (ordered-in (m .terms) (p .terms)) (k .point) (k .direction) (at-most-finite 10_000_000_000 (r .alpha) (k .search .alpha));
-    },
-    l,
-    h,
-    k,
-  )
-
-  -- a finite direction leads from a finite point
-  finite-start : (n : ℕ) (end x d : List Float) → d ≡ difference n end x → EachFinite n d → EachFinite n x
-  finite-start n end x d e h i l =
-      minus-terms-finite (word end i) (word x i)
-      (subst (λ (v : Float). T (finite v)) (ap (λ (v : List Float). word v i) e ∙ getD-tab n (λ j. minus (word end j) (word x j)) i _ l) (h i l)) .1
-
-  first-aimed : (m : Machine) (end : List Float) (r : Search) → Seeking m → m .direction ≡ difference (m .terms .n) end (m .held .x)
+  first-aimed :
+      (m : Machine) (end : List Float) (r : Search) → Seeking m → m .direction ≡ difference (m .terms .n) end (m .held .x)
       → beginSearch (m .terms .n) (m .terms .bounds) (m .held .x) (m .held .g) (m .direction) ≡ some r → Aimed (aiming r m)
   first-aimed m end r h e q =
       let k = begun-running (m .terms .n) (m .terms .bounds) (m .held .x) (m .held .g) (m .direction) r q in
-      aimed m r (h .0) (h .1) (h .2) (record { point = finite-start (m .terms .n) end (m .held .x) (m .direction) e (k .0); direction = k .0; search = k .1 })
+      let point = finite-start (m .terms .n) end (m .held .x) (m .direction) e (k .0) in
+      aimed m r (h .0) (h .1) (record { standing = h .2; point = point; direction = k .0; search = k .1 })
 
-  next-aimed : (m : Machine) (r : Search) → Gathering Place.trial m → afterTrial (m .search) (m .held .f) (m .trial .f) (dot (m .terms .n) (m .trial .g) (m .direction)) ≡ some r → Aimed (aiming r m)
+  next-aimed :
+      (m : Machine) (r : Search) → Gathering Place.trial m → afterTrial (m .search) (m .held .f) (m .trial .f) (slopeOf m) ≡ some r → Aimed (aiming r m)
   next-aimed m r h q =
-      let k = h .2 .1 in
-      aimed m r (h .0) (h .1) (h .2 .0)
-      (record { point = k .point; direction = k .direction; search = next-running (m .search) (m .held .f) (m .trial .f) (dot (m .terms .n) (m .trial .g) (m .direction)) (k .search) r q })
+      let k = h .2 .place in
+      let search = next-running (m .search) (m .held .f) (m .trial .f) (slopeOf m) (k .search) r q in
+      aimed m r (h .0) (h .1) (record { standing = k .standing; point = k .point; direction = k .direction; search = search })
 
   -- the trial is held
-  settled : (m : Machine) → PlacedAt s m → Low (m .held .f) → Number (m .trial .f) → T (le (m .trial .f) (m .held .f)) → gradientFinite m ≡ true
+  settled :
+      (m : Machine) → PlacedOf s m → Low (m .held .f) → Number (m .trial .f) → T (le (m .trial .f) (m .held .f)) → gradientFinite m ≡ true
       → Placed s (m .terms) (m .trial .x) (m .trial .x) × Low (m .trial .f) × Standing (m .terms) (m .trial)
   settled m p l n h e = (
     record { terms = p .terms; held = p .trial; trial = p .trial },
@@ -137,25 +145,26 @@ module _ (s : Setup) (ordered : Ordered (termsOf s)) (b : Machine) where
     record { value = n; gradient = words-finite (m .terms .n) (m .trial .g) (holds e) },
   )
 
-  moved : (m : Machine) → Gathering Place.trial m → gradientFinite m ≡ true
-      → accepts (m .search) (m .held .f) (m .trial .f) (dot (m .terms .n) (m .trial .g) (m .direction)) ≡ true → Next (move (learn m))
+  moved :
+      (m : Machine) → Gathering Place.trial m → gradientFinite m ≡ true → accepts (m .search) (m .held .f) (m .trial .f) (slopeOf m) ≡ true
+      → Next (move (learn m))
   unfolding move learn
   moved m h e q =
-      let f = h .2 .0 .value in
-      settled m (h .0) (h .1) (h .2 .2)
-      (accepted-not-above (m .search) (m .held .f) (m .trial .f) (dot (m .terms .n) (m .trial .g) (m .direction)) (h .2 .1 .search) (f .fitting) (f .whole) q) e
+      let k = h .2 in
+      let fell = accepted-not-above (m .search) (m .held .f) (m .trial .f) (slopeOf m) (k .place .search) (k .value .fitting) (k .value .whole) q in
+      settled m (h .0) (h .1) (k .found) fell e
 
   leads : Leads Gathering Seeking Aimed Next
   leads = record {
     bare = λ m h. h;
     headed = λ m d h. h;
     begun = first-aimed;
-    asked = λ m h. (h .0, h .1, (h .2, h .3));
+    asked = λ m h. h;
     counted = λ w m h. h;
     supplied = λ w g m h. h;
     right = λ w v m h. h;
     probed = λ w i side m h l a. (h .0, h .1, (h .2, l, a));
-    steep = λ m h e. settled m (h .0) (h .1) (h .2 .1) (h .2 .2) e;
+    steep = λ m h e. settled m (h .0) (h .1) (h .2 .found) (h .2 .place) e;
     again = next-aimed;
     moved = moved;
     gatheringEnds = λ w t m h. (h .0, h .1, tt);
@@ -164,39 +173,32 @@ module _ (s : Setup) (ordered : Ordered (termsOf s)) (b : Machine) where
   }
 
   -- what is known of b itself
-  number-at : (w : Place) (t : Terms) (h : State) (v : Float) (d : List Float) (r : Search) → ReadyAt w t h v d r → Number (h .f)
-  number-at Place.start t h v d r k = k .0
-  number-at Place.trial t h v d r k = k .0 .value
-
   level : (v : Float) → Number v → T (le v v)
   level v n = le-refl v (finite-not-nan v (n .whole))
 
   own-low : Number (b .held .f) → Low (b .held .f)
   own-low n e = (n, level (b .held .f) n)
 
-  gathering : (w : Place) → PlacedAt s b → Ready w b → Gathering w b
-  gathering w p h = (p, own-low (number-at w (b .terms) (b .held) (b .trial .f) (b .direction) (b .search) h), h)
-
   replied : (v : ℕ) → finite (toFloat v) ≡ true → Number (toFloat v)
   replied v e = record { fitting = ofBits-fits binary64 v; whole = holds e }
 
-  known : (r : Reply) (p : Phase) → b .phase ≡ p → PlacedAt s b → FactsIn b p → Known Gathering Seeking Next r b p
+  known : (r : Reply) (p : Phase) → b .phase ≡ p → PlacedOf s b → FactsIn b p → Known Gathering Seeking Next r b p
   known r (Phase.value Place.start) e p h =
       let none-held : (v : Float) → Low v = λ v q. absurd (true≢false (sym (ap unreported e) ∙ q)) in
       record {
-        value = λ v _ f. (p, none-held (toFloat v), (replied v f, replied v f, level (toFloat v) (replied v f)));
+        value = λ v _ f. let n = replied v f in (p, none-held (toFloat v), record { value = n; found = n; place = level (toFloat v) n });
         nonfinite = λ v _ f. (p, none-held (toFloat v), tt);
         failed = (p, none-held (b .held .f), tt);
       }
   known r (Phase.value Place.trial) e p h =
-      let l = own-low (h .0 .value) in
+      let l = own-low (h .standing .value) in
       record {
-        value = λ v _ f. (p, l, (h .0, h .1, replied v f));
+        value = λ v _ f. (p, l, record { value = h .standing .value; found = replied v f; place = h });
         nonfinite = λ v _ f. (p, l, tt);
         failed = (p, l, tt);
       }
-  known r (Phase.gradient w) e p h = gathering w p h
-  known r (Phase.probe w i side) e p h = (gathering w p (h .0), h .1)
+  known r (Phase.gradient w) e p h = (p, own-low (h .value), h)
+  known r (Phase.probe w i side) e p h = ((p, own-low (h .0 .value), h .0), h .1)
   known r Phase.notice e p h = (p, own-low (h .value), h)
   known r (Phase.ended t) e p h = tt
 
@@ -216,6 +218,8 @@ module _ (s : Setup) (accepted : Accepted s) where
       record { placed = q .0; facts = q .2 }
 
   -- the next value held, where there was one
-  pub next-value : (rs : List Reply) (r : Reply) → Due s (r ∷ rs) → Reported s rs → Number (run s (r ∷ rs) .held .f) × T (le (run s (r ∷ rs) .held .f) (run s rs .held .f))
+  pub next-value :
+      (rs : List Reply) (r : Reply) → Due s (r ∷ rs) → Reported s rs
+      → Number (run s (r ∷ rs) .held .f) × T (le (run s (r ∷ rs) .held .f) (run s rs .held .f))
   unfolding run
   next-value rs r d e = step (run s rs) r (due-taken (run s rs) r (d .0)) (sound rs (d .1)) .1 e

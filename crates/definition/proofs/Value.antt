@@ -1,7 +1,7 @@
--- The value held never rises from one reply to the next, and so is never above a finite first reply. Assumes nothing.
-use Prim.Native.Nat.{ℕ}
-use mathlib.Core.Path.{_≡_, refl, sym, _∙_}
-use mathlib.Core.Bool.{Bool, true, false, false≢true, true≢false}
+-- The value held never rises from one reply to the next, and so is never above a finite first reply; and what the value held before is. Assumes nothing.
+use Prim.Native.Nat.{ℕ, _<_}
+use mathlib.Core.Path.{_≡_, refl, sym, ap, _∙_}
+use mathlib.Core.Bool.{Bool, true, false, not, cond, _&&_, false≢true, true≢false}
 use mathlib.Core.List.{List, [], _∷_}
 use mathlib.Core.Option.{none, some}
 use lib.Dec.{T}
@@ -9,15 +9,16 @@ use lib.Ieee.{le}
 use lib.Ieee.Scale.{finite}
 use Rattle.definition.specs.Number.{toFloat}
 use Rattle.definition.specs.Problem.{Setup}
-use Rattle.definition.specs.Machine.{Reply, Place, Phase, Machine, suits, kindOf, unreported}
-use Rattle.definition.specs.Driver.{onValue, begin, run}
+use Rattle.definition.specs.Machine.{Reply, Place, Side, Phase, Machine, suits, kindOf, unreported}
+use Rattle.definition.specs.Driver.{learn, move, onValue, begin, run}
 use Rattle.definition.specs.Replies.{Accepted, Due, valueIn, firstValue}
-use Rattle.definition.specs.Points.{Reported}
+use Rattle.definition.specs.Points.{Reported, atNotice, takesTrial}
 use Rattle.definition.proofs.Accepted.{due-taken}
 use Rattle.definition.proofs.Order.{le-refl, le-trans}
 use Rattle.definition.proofs.Finite.{finite-not-nan}
 use Rattle.definition.proofs.Turns.{by-test, none-suits}
-use Rattle.definition.proofs.Own.{still-first, start-asked-first}
+use Rattle.definition.proofs.Leads.{Leads, Known, answer-leads}
+use Rattle.definition.proofs.Own.{still-first, start-asked-first, probed-coordinate}
 use Rattle.definition.proofs.Sound.{next-value}
 
 pub held-value-never-rises : (s : Setup) (r : Reply) (rs : List Reply) → Accepted s → Due s (r ∷ rs) → Reported s rs → T (le (run s (r ∷ rs) .held .f) (run s rs .held .f))
@@ -74,3 +75,51 @@ not-above-first s rs a d e w q f =
     let k = from-first s rs a d e in
     let same : k .0 ≡ w = cc (k .1) in
     rw same at (k .2) f
+
+-- ---- the value held before
+
+module _ (b : Machine) where
+  abbrev Gathering : Place → Machine → Type 0
+  Gathering w m = (m .held .f ≡ b .held .f) × (m .before ≡ b .before) × (atNotice (b .phase) ≡ false)
+
+  abbrev Unmoved : Machine → Type 0
+  Unmoved m = m .before ≡ b .before
+
+  abbrev Next : Machine → Type 0
+  Next m = m .before ≡ cond (atNotice (m .phase) && not (atNotice (b .phase))) (b .held .f) (b .before)
+
+  move-next : (m : Machine) → Gathering Place.trial m → Next (move (learn m))
+  unfolding move learn
+  move-next m h = rw (h .2) (h .0)
+
+  leads : Leads Gathering Unmoved Unmoved Next
+  leads = record {
+    bare = λ m h. h;
+    headed = λ m d h. h;
+    begun = λ m end r h e q. h;
+    asked = λ m h. h;
+    counted = λ w m h. h;
+    supplied = λ w g m h. h;
+    right = λ w v m h. h;
+    probed = λ w i side m h l a. h .1;
+    steep = λ m h e. h .1;
+    again = λ m r h e. h .1;
+    moved = λ m h e q. move-next m h;
+    gatheringEnds = λ w t m h. h .1;
+    seekingEnds = λ t m h. h;
+    aimedEnds = λ t m h. h;
+  }
+
+  known : (r : Reply) (p : Phase) → b .phase ≡ p → ((w : Place) (i : ℕ) (side : Side) → b .phase ≡ Phase.probe w i side → i < b .terms .n) → Known Gathering Unmoved Next r b p
+  known r (Phase.value Place.start) e l = record { value = λ v q f. refl; nonfinite = λ v q f. refl; failed = refl }
+  known r (Phase.value Place.trial) e l = record { value = λ v q f. refl; nonfinite = λ v q f. refl; failed = refl }
+  known r (Phase.gradient w) e l = (refl, refl, ap atNotice e)
+  known r (Phase.probe w i side) e l = ((refl, refl, ap atNotice e), l w i side e)
+  known r Phase.notice e l = refl
+  known r (Phase.ended t) e l = tt
+
+-- what the test of the decrease compares with is the value held before the last trial was taken
+pub before-is-held-before : (s : Setup) (r : Reply) (rs : List Reply) → Due s (r ∷ rs) → run s (r ∷ rs) .before ≡ cond (takesTrial (run s rs) r) (run s rs .held .f) (run s rs .before)
+unfolding run
+before-is-held-before s r rs d =
+    answer-leads (leads (run s rs)) (run s rs) r (due-taken (run s rs) r (d .0)) (λ p e. known (run s rs) r p e (probed-coordinate s rs (d .1)))

@@ -76,11 +76,22 @@ pub record TakenLast (s : Setup) (earlier later : List Reply) : Type 0 where
   pub takes : takesTrial (run s (between ++ earlier)) taking ≡ true
   pub last : NoneOf takesTrial s after (taking ∷ between ++ earlier)
 
--- Where the point x and its value f come from, the option being the last trial taken:
--- x is the clipped start and f the first value reply, or x is that trial and f the reply to its own question.
+-- x is the clipped start, and f the first value reply
+pub record StartHeld (s : Setup) (rs : List Reply) (x : List Float) (f : Float) : Type 0 where
+  pub point : x ≡ projectedStart s
+  pub given : GivenAt Place.start s rs x f
+  pub first : firstValue rs ≡ some (given .word)
+
+-- x is the last trial taken, and f the reply to that trial's own question
+pub record TrialHeld (taken : List Float) (s : Setup) (rs : List Reply) (x : List Float) (f : Float) : Type 0 where
+  pub point : x ≡ taken
+  pub given : GivenAt Place.trial s rs x f
+  pub last : TakenLast s (Reply.value (given .word) ∷ given .earlier) (given .later)
+
+-- the one or the other, by the last trial taken
 abbrev pub OwnOf : Option (List Float) → Setup → List Reply → List Float → Float → Type 0
-OwnOf none s rs x f = (x ≡ projectedStart s) × (g : GivenAt Place.start s rs x f) × (firstValue rs ≡ some (g .word))
-OwnOf (some taken) s rs x f = (x ≡ taken) × (g : GivenAt Place.trial s rs x f) × TakenLast s (Reply.value (g .word) ∷ g .earlier) (g .later)
+OwnOf none = StartHeld
+OwnOf (some taken) = TrialHeld taken
 
 -- ---- the box
 
@@ -110,12 +121,13 @@ searching (Phase.probe w i side) = isTrial w
 searching Phase.notice = false
 searching (Phase.ended t) = false
 
--- While it runs the point held and the direction are finite, and the step is positive and at most 10 ^ 10.
-pub record SearchRuns (n : ℕ) (x direction : List Float) (step : Float) : Type 0 where
-  pub point : EachFinite n x
-  pub finite : EachFinite n direction
-  pub positive : T (lt zero64 step)
-  pub atMost : T (le step stepLimit)
+-- While it runs the point held, its gradient and the direction are finite, and the step is positive and at most 10 ^ 10.
+pub record SearchRuns (n : ℕ) (m : Machine) : Type 0 where
+  pub point : EachFinite n (m .held .x)
+  pub gradient : EachFinite n (m .held .g)
+  pub direction : EachFinite n (m .direction)
+  pub positive : T (lt zero64 (m .search .alpha))
+  pub atMost : T (le (m .search .alpha) stepLimit)
 
 -- ---- probes
 
