@@ -12,7 +12,7 @@ use borrow.Author.Tests.{not-false}
 use Rattle.definition.specs.Number.{plus, minus, times, min, max, nextUp, nextDown, infinity, negInfinity}
 use Rattle.definition.specs.Vector.{tab, word}
 use Rattle.definition.specs.Problem.{Setup, Scheme, Bounds, Terms, Check, refuse, when, _then_, eachIndex, given, checkSide, checkPair, checkBounds, checkProblem, validate, orElse, openBounds, termsOf, inBox, projectedStart, dimension}
-use Rattle.definition.specs.Gradient.{Probes, probes, probesAt, differenceStep, plusPoint, minusPoint}
+use Rattle.definition.specs.Gradient.{Probes, probes, probesBetween, probesAt, differenceStep, plusPoint, minusPoint}
 use Rattle.definition.specs.Search.{trialPoint}
 use Rattle.definition.specs.Machine.{Side, probePoint}
 use Rattle.definition.specs.Replies.{Accepted}
@@ -27,7 +27,9 @@ use Rattle.definition.proofs.Turns.{by-test}
 -- ---- the bounds and the start of an accepted setup
 
 each-passed : (n : ℕ) (check : ℕ → Check) → eachIndex n check ≡ none → (i : ℕ) → i < n → check i ≡ none
-each-passed n check = foldTo-each (λ (c : Check). c ≡ none) (λ (i : ℕ). check i ≡ none) (λ i c. c then check i) none (λ i c e. (first-passed c (check i) e, rest-passed c (check i) e)) n
+each-passed n check =
+    foldTo-each (λ (c : Check). c ≡ none) (λ (i : ℕ). check i ≡ none) (λ i c. c then check i) none
+    (λ i c e. (first-passed c (check i) e, rest-passed c (check i) e)) n
 
 not-nan : (x : Float) → isNan x ≡ false → NotNan x
 not-nan x e = rw e tt
@@ -66,7 +68,8 @@ x0-finite s a i l =
     let problem = first-passed (checkProblem s) _ a in
     let rest = rest-passed (when (eqb n 0) (refuse 1 0 0)) _ problem in
     let check : ℕ → Check = λ j. when (not (finite (word (s .x0) j))) (refuse 2 j 0) in
-    holds (not-false (finite (word (s .x0) i)) (test-failed (not (finite (word (s .x0) i))) 2 i 0 (each-passed n check (first-passed (eachIndex n check) _ rest) i l)))
+    let fails = test-failed (not (finite (word (s .x0) i))) 2 i 0 (each-passed n check (first-passed (eachIndex n check) _ rest) i l) in
+    holds (not-false (finite (word (s .x0) i)) fails)
 
 -- ---- what is clamped
 
@@ -83,7 +86,8 @@ pub line-in-box : (t : Terms) (x d : List Float) (alpha : Float) → Ordered t �
     → InBox t (trialPoint (t .n) (t .bounds) x d alpha)
 unfolding trialPoint
 line-in-box t x d alpha o p q a =
-    tab-in-box t (λ i. plus (word x i) (times alpha (word d i))) o (λ i l. plus-not-nan (word x i) (times alpha (word d i)) (p i l) (times-not-nan alpha (word d i) a (q i l)))
+    tab-in-box t (λ i. plus (word x i) (times alpha (word d i))) o
+    (λ i l. plus-not-nan (word x i) (times alpha (word d i)) (p i l) (times-not-nan alpha (word d i) a (q i l)))
 
 -- ---- probes
 
@@ -146,7 +150,9 @@ module _ (x low high : Float) (stands : T (le low x) × T (le x high)) where
   AllProbed (Probes.rightOnly r) = Probed Side.right r
   AllProbed (Probes.leftOnly l) = Probed Side.left l
 
-  probes-probed : (a b : Bool) (scheme : Scheme) (r l : Float) → (a ≡ true → Probed Side.right r) → (b ≡ true → Probed Side.left l) → AllProbed (probes a b scheme r l)
+  probes-probed :
+      (a b : Bool) (scheme : Scheme) (r l : Float) → (a ≡ true → Probed Side.right r) → (b ≡ true → Probed Side.left l)
+      → AllProbed (probes a b scheme r l)
   probes-probed true true Scheme.central r l p q = (p refl, q refl)
   probes-probed true true Scheme.forward r l p q = p refl
   probes-probed true false Scheme.central r l p q = p refl
@@ -156,7 +162,17 @@ module _ (x low high : Float) (stands : T (le low x) × T (le x high)) where
   probes-probed false false Scheme.central r l p q = tt
   probes-probed false false Scheme.forward r l p q = tt
 
-  probe-to : (q : Probes) (side : Side) (i : ℕ) (y : List Float) → AllProbed q → asks q side ≡ true → (v : Float) × Probed side v × (probePoint q side i y ≡ set y i v)
+  all-probed : (t : Terms) (i : ℕ) → AllProbed (probesBetween t i x low high)
+  all-probed t i =
+      let h = differenceStep t i x in
+      let r = plusPoint h x high in
+      let l = minusPoint h x low in
+      by-test AllProbed (eq low high) (λ _. tt)
+      (λ _. probes-probed (finite r && lt x r) (finite l && lt l x) (t .scheme) r l (plus-probed h) (minus-probed h))
+
+  probe-to :
+      (q : Probes) (side : Side) (i : ℕ) (y : List Float) → AllProbed q → asks q side ≡ true
+      → (v : Float) × Probed side v × (probePoint q side i y ≡ set y i v)
   probe-to Probes.neither side i y h e = absurd (false≢true e)
   probe-to (Probes.both r l) Side.right i y h e = (r, h .0, refl)
   probe-to (Probes.both r l) Side.left i y h e = (l, h .1, refl)
@@ -165,18 +181,15 @@ module _ (x low high : Float) (stands : T (le low x) × T (le x high)) where
   probe-to (Probes.leftOnly l) Side.right i y h e = absurd (false≢true e)
   probe-to (Probes.leftOnly l) Side.left i y h e = (l, h, refl)
 
-pub probe-of : (t : Terms) (x : List Float) (i : ℕ) (side : Side) → InBox t x → i < t .n → asks (probesAt t x i) side ≡ true → ProbeOf t x i side (probePoint (probesAt t x i) side i x)
+pub probe-of :
+    (t : Terms) (x : List Float) (i : ℕ) (side : Side) → InBox t x → i < t .n → asks (probesAt t x i) side ≡ true
+    → ProbeOf t x i side (probePoint (probesAt t x i) side i x)
 unfolding probesAt
 probe-of t x i side box l e =
     let v = word x i in
     let low = word (t .bounds .lower) i in
     let high = word (t .bounds .upper) i in
-    let h = differenceStep t i v in
-    let r = plusPoint h v high in
-    let f = minusPoint h v low in
-    let all = by-test (AllProbed v low high (box i l)) (eq low high) (λ _. tt)
-    (λ _. probes-probed v low high (box i l) (finite r && lt v r) (finite f && lt f v) (t .scheme) r f (plus-probed v low high (box i l) h) (minus-probed v low high (box i l) h)) in
-    let p = probe-to v low high (box i l) (probesAt t x i) side i x all e in
+    let p = probe-to v low high (box i l) (probesAt t x i) side i x (all-probed v low high (box i l) t i) e in
     record { coordinate = l; to = p .0; moved = p .2; finite = p .1 .finite; beyond = p .1 .beyond; within = p .1 .within }
 
 word-set : (P : Float → Type 0) (x : List Float) (i j : ℕ) (v : Float) → (j ≡ i → P v) → P (word x j) → P (word (set x i v) j)

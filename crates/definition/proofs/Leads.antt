@@ -1,4 +1,5 @@
--- One law for the theorems on points and values: what holds at the next question, or at the end, if each part of a step keeps what it rests on. Assumes nothing.
+-- One law for the theorems on points and values: what holds at the next question, or at the end, if each part of a step keeps what it rests on.
+-- Unlike the law of `Turns` it tells the machine with its next trial set from the one before. Assumes nothing.
 use Prim.Native.Nat.{ℕ, zero, suc, _+_, _-_, _≤_, _<_}
 use native.Mathlib.Omega.{arith}
 use mathlib.Core.Path.{_≡_, refl, sym, ap, _∙_}
@@ -24,7 +25,8 @@ use Rattle.definition.proofs.Turns.{by-test, Turn, turn, asking, gather
 abbrev trialSlope : Machine → Float
 trialSlope m = dot (m .terms .n) (m .trial .g) (m .direction)
 
--- G: while the gradient at a place is gathered; S: while a direction from the point held is sought; A: with the next trial set; Q: at the next question, or the end
+-- G: while the gradient at a place is gathered; S: while a direction from the point held is sought; A: with the next trial set;
+-- Q: at the next question, or the end
 pub record Leads (G : Place → Machine → Type 0) (S A Q : Machine → Type 0) : Type 0 where
   pub bare : (m : Machine) → S m → S (withCompact noPairs m)
   pub headed : (m : Machine) (d : List Float) → S m → S (heading d m)
@@ -66,7 +68,9 @@ Known G S Q r m (Phase.ended t) = Unit {0}
 module _ {G : Place → Machine → Type 0} {S A Q : Machine → Type 0} (k : Leads G S A Q) where
   -- ---- the next trial
 
-  search-leads : (m : Machine) (o : Option Search) → Q (ending Termination.lineSearchFailed m) → ((r : Search) → o ≡ some r → A (aiming r m)) → Q (trySearch m o)
+  search-leads :
+      (m : Machine) (o : Option Search) → Q (ending Termination.lineSearchFailed m) → ((r : Search) → o ≡ some r → A (aiming r m))
+      → Q (trySearch m o)
   unfolding tryStep askValue
   search-leads m none h next = h
   search-leads m (some r) h next =
@@ -106,8 +110,9 @@ module _ {G : Place → Machine → Type 0} {S A Q : Machine → Type 0} (k : Le
       let h' = k .steep m h e in
       by-test Q (gradientSmall m') (λ _. k .seekingEnds Termination.gtol m' h') (λ _. descend-leads m' h')
   measured-leads Place.trial m h e =
+      let next = afterTrial (m .search) (m .held .f) (m .trial .f) (trialSlope m) in
       by-test Q (accepts (m .search) (m .held .f) (m .trial .f) (trialSlope m)) (k .moved m h e)
-      (λ _. search-leads m (afterTrial (m .search) (m .held .f) (m .trial .f) (trialSlope m)) (k .gatheringEnds Place.trial Termination.lineSearchFailed m h) (λ r. k .again m r h))
+      (λ _. search-leads m next (k .gatheringEnds Place.trial Termination.lineSearchFailed m h) (λ r. k .again m r h))
 
   complete-leads : (w : Place) (m : Machine) → G w m → Q (complete w m)
   unfolding complete
@@ -119,7 +124,8 @@ module _ {G : Place → Machine → Type 0} {S A Q : Machine → Type 0} (k : Le
       (w : Place) (i : ℕ) (side : Side) (m : Machine) → G w m → i < m .terms .n → asks (probesAt (m .terms) (m .trial .x) i) side ≡ true
       → Q (askValue (Phase.probe w i side) m)
   unfolding askValue
-  ask-leads w i side m h l a = by-test Q (valueLeft (m .limits) (m .counters)) (λ _. k .probed w i side m h l a) (λ _. k .gatheringEnds w Termination.maxEvaluations m h)
+  ask-leads w i side m h l a =
+      by-test Q (valueLeft (m .limits) (m .counters)) (λ _. k .probed w i side m h l a) (λ _. k .gatheringEnds w Termination.maxEvaluations m h)
 
   probes-lead :
       (w : Place) (i : ℕ) (m next : Machine) (q : Probes) → probesAt (m .terms) (m .trial .x) i ≡ q → G w m → i < m .terms .n → Q next

@@ -1,4 +1,5 @@
--- The step search: its steps are positive and at most 10 ^ 10, its slope is negative, its direction is finite, and a trial that it accepts is not above the value held. Assumes nothing.
+-- The step search: its steps are positive and at most 10 ^ 10, its slope is negative and its direction finite,
+-- and a trial that it accepts is not above the value held. Assumes nothing.
 use Prim.Native.Nat.{ℕ, zero, suc}
 use native.Mathlib.Omega.{arith}
 use mathlib.Core.Path.{_≡_, refl, sym, subst}
@@ -160,4 +161,6 @@ module _ (r : Search) (f v slope : Float) (h : Running r) where
   -- an accepted trial does not rise
   pub accepted-not-above : T (fits binary64 f) → T (finite f) → accepts r f v slope ≡ true → T (le v f)
   unfolding accepts
-  accepted-not-above p q e = trial-not-above v f (r .alpha) (r .slope0) p q (at-most-unsigned 10_000_000_000 (r .alpha) (h .alpha)) (h .slope) (both-hold (decreases r f v) (flat r slope || onFace r f v) e .0)
+  accepted-not-above p q e =
+      let decreased = both-hold (decreases r f v) (flat r slope || onFace r f v) e .0 in
+      trial-not-above v f (r .alpha) (r .slope0) p q (at-most-unsigned 10_000_000_000 (r .alpha) (h .alpha)) (h .slope) decreased

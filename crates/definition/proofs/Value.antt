@@ -21,7 +21,9 @@ use Rattle.definition.proofs.Leads.{Leads, Known, answer-leads}
 use Rattle.definition.proofs.Own.{still-first, start-asked-first, probed-coordinate}
 use Rattle.definition.proofs.Sound.{next-value}
 
-pub held-value-never-rises : (s : Setup) (r : Reply) (rs : List Reply) → Accepted s → Due s (r ∷ rs) → Reported s rs → T (le (run s (r ∷ rs) .held .f) (run s rs .held .f))
+pub held-value-never-rises :
+    (s : Setup) (r : Reply) (rs : List Reply) → Accepted s → Due s (r ∷ rs) → Reported s rs
+    → T (le (run s (r ∷ rs) .held .f) (run s rs .held .f))
 held-value-never-rises s r rs a d e = next-value s a rs r d e .1
 
 -- ---- the first value
@@ -63,13 +65,15 @@ from-first s (r ∷ rs) a d e = go (unreported (run s rs .phase)) refl (from-fir
     go false q h =
         let k = h q in
         let v = next-value s a rs r d q in
-        (k .0, still-first (firstValue rs) (valueIn r) (k .0) (k .1), λ f. (v .0 .whole, le-trans (run s (r ∷ rs) .held .f) (run s rs .held .f) (toFloat (k .0)) (v .1) (k .2 f .1)))
+        let w = k .0 in
+        (w, still-first (firstValue rs) (valueIn r) w (k .1), λ f. (v .0 .whole, le-trans (run s (r ∷ rs) .held .f) (run s rs .held .f) (toFloat w) (v .1) (k .2 f .1)))
     go true q h =
         let none = start-asked-first s rs (d .1) (first-asked (run s rs .phase) r q (due-taken (run s rs) r (d .0))) in
         let k : Reported s (r ∷ rs) → FromFirst s (r ∷ rs) = rw none (first-itself s r) in
         k e
 
-pub not-above-first : (s : Setup) (rs : List Reply) → Accepted s → Due s rs → Reported s rs → (w : ℕ) → firstValue rs ≡ some w → T (finite (toFloat w))
+pub not-above-first :
+    (s : Setup) (rs : List Reply) → Accepted s → Due s rs → Reported s rs → (w : ℕ) → firstValue rs ≡ some w → T (finite (toFloat w))
     → T (finite (run s rs .held .f)) × T (le (run s rs .held .f) (toFloat w))
 not-above-first s rs a d e w q f =
     let k = from-first s rs a d e in
@@ -110,7 +114,9 @@ module _ (b : Machine) where
     aimedEnds = λ t m h. h;
   }
 
-  known : (r : Reply) (p : Phase) → b .phase ≡ p → ((w : Place) (i : ℕ) (side : Side) → b .phase ≡ Phase.probe w i side → i < b .terms .n) → Known Gathering Unmoved Next r b p
+  known :
+      (r : Reply) (p : Phase) → b .phase ≡ p → ((w : Place) (i : ℕ) (side : Side) → b .phase ≡ Phase.probe w i side → i < b .terms .n)
+      → Known Gathering Unmoved Next r b p
   known r (Phase.value Place.start) e l = record { value = λ v q f. refl; nonfinite = λ v q f. refl; failed = refl }
   known r (Phase.value Place.trial) e l = record { value = λ v q f. refl; nonfinite = λ v q f. refl; failed = refl }
   known r (Phase.gradient w) e l = (refl, refl, ap atNotice e)
@@ -119,7 +125,9 @@ module _ (b : Machine) where
   known r (Phase.ended t) e l = tt
 
 -- what the test of the decrease compares with is the value held before the last trial was taken
-pub before-is-held-before : (s : Setup) (r : Reply) (rs : List Reply) → Due s (r ∷ rs) → run s (r ∷ rs) .before ≡ cond (takesTrial (run s rs) r) (run s rs .held .f) (run s rs .before)
+pub before-is-held-before :
+    (s : Setup) (r : Reply) (rs : List Reply) → Due s (r ∷ rs)
+    → run s (r ∷ rs) .before ≡ cond (takesTrial (run s rs) r) (run s rs .held .f) (run s rs .before)
 unfolding run
 before-is-held-before s r rs d =
     answer-leads (leads (run s rs)) (run s rs) r (due-taken (run s rs) r (d .0)) (λ p e. known (run s rs) r p e (probed-coordinate s rs (d .1)))
