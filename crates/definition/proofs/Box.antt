@@ -1,5 +1,5 @@
--- Every point held or asked about lies within the box, and so has no NaN; where a search runs, what it rests on is finite. Assumes nothing.
--- In an open box a coordinate may still be infinite: of a trial, and of the point held once such a trial is taken.
+-- Every point held or asked about lies within the box, and so has no NaN; where a search runs, what it rests on is finite.
+-- In an open box a coordinate may still be infinite: a trial's, and at a notice or after the end that of the point held. Assumes nothing.
 use Prim.Native.Nat.{ℕ, _<_}
 use mathlib.Core.Path.{_≡_, sym, ap, _∙_, subst}
 use mathlib.Core.Bool.{true, false, false≢true}
