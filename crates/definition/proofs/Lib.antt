@@ -30,3 +30,10 @@ pub mod Bound
 pub mod Statuses
 pub mod Sizes
 pub mod Words
+pub mod Leads
+pub mod Own
+pub mod Trials
+pub mod Inside
+pub mod Sound
+pub mod Value
+pub mod Box

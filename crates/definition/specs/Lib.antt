@@ -20,3 +20,4 @@ pub mod Paths
 pub mod Sound
 pub mod Ordered
 pub mod Facts
+pub mod Points
