@@ -1,0 +1,3 @@
+pub mod Order
+pub mod Paths
+pub mod Segments

@@ -1,0 +1,20 @@
+-- `cauchy::begin_path` meets its contract: the three vectors of the path are made. Assumes nothing.
+use Rattle.float.proofs.Constants.{zero-is}
+use Rattle.cauchy.proofs.Paths.{begins}
+use borrow.Author.Needs.{needs}
+use Rattle.cauchy.proofs.begin_path.Statement.{statement}
+use Rattle.cauchy.proofs.begin_path.Tie as tie
+
+returns : tie.Need-returns
+returns c = rw zero-is (begins _ _ (c .before .before .before .before .before .before .before .before .before .before .before .set-off .ensures) (rw zero-is at (c .before .before .before .before .before .before .before .fill .ensures)) (c .before .before .before .no-bound .ensures) (c .before .before .fill2 .ensures))
+
+pub begin-path-spec : {M : Type 1} → statement M
+begin-path-spec =
+    tie.close
+    (tie.spec
+    (λ c κs. search needs)
+    (λ c κs. search needs)
+    (λ c κs. search needs)
+    (λ c κs. search needs)
+    (λ c. search needs)
+    returns)

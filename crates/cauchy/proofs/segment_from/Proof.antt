@@ -1,0 +1,48 @@
+-- `cauchy::segment_from` meets its contract: no direction left, a product that fails, or the slope decides. Assumes nothing.
+use native.Mathlib.Omega.{arith}
+use Rattle.area.specs.Area.{ProductD}
+use Rattle.compact.proofs.Models.{modelled-kept}
+use Rattle.cauchy.proofs.Segments.{product-kept, segment-ends, segment-fails₁, segment-fails₂, segment-goes}
+use borrow.Author.Needs.{needs}
+use Rattle.cauchy.proofs.segment_from.Statement.{statement}
+use Rattle.cauchy.proofs.segment_from.Tie as tie
+
+returns : tie.Need-returns
+returns c = let s = c .before .before .before .before .before .before .before .before .args in segment-ends (s .h) (s .theta) (s .b) (s .p) (c .before .before .before .before .before .still .ensures) (c .before .before .before .before .if1 .taken) (c .before .before .point-on-path .ensures)
+
+returns-2 : tie.Need-returns-2
+returns-2 c = let s = c .before .before .before .before .before .before .before .before .before .args in segment-fails₁ (s .h) (s .theta) (s .b) (s .p) (c .before .before .before .before .before .before .still .ensures) (c .before .before .before .before .before .if1 .left) (c .before .before .before .product .ensures) (c .if2 .taken)
+
+product-requires-2 : tie.Need-product-requires-2
+product-requires-2 c κs = (
+  rw (← c .before .before .before .area2 .given) at (c .before .before .before .before .before .before .before .before .before .before .pre .0),
+  modelled-kept _ (product-kept ProductD (c .before .before .before .before .product .ensures) (omega arith) (omega arith) .high) (c .before .before .before .before .before .before .before .before .before .before .pre .1),
+  omega arith,
+  omega arith,
+)
+
+returns-3 : tie.Need-returns-3
+returns-3 c = let s = c .before .before .before .before .before .before .before .before .before .before .before .before .before .before .args in segment-fails₂ (s .h) (s .theta) (s .b) (s .p) (c .before .before .before .before .before .before .before .before .before .before .before .still .ensures) (c .before .before .before .before .before .before .before .before .before .before .if1 .left) (c .before .before .before .before .before .before .before .before .product .ensures) (c .before .before .before .before .before .if2 .left) (c .before .before .before .product2 .ensures) (c .if3 .taken)
+
+returns-4 : tie.Need-returns-4
+returns-4 c = let s = c .before .before .before .before .before .before .before .before .before .before .before .before .before .before .before .before .before .before .before .before .before .before .args in segment-goes (s .h) (s .theta) (s .b) (s .p) (c .before .before .before .before .before .before .before .before .before .before .before .before .before .before .before .before .before .before .before .still .ensures) (c .before .before .before .before .before .before .before .before .before .before .before .before .before .before .before .before .before .before .if1 .left) (c .before .before .before .before .before .before .before .before .before .before .before .before .before .before .before .before .product .ensures) (c .before .before .before .before .before .before .before .before .before .before .before .before .before .if2 .left) (c .before .before .before .before .before .before .before .before .before .before .before .product2 .ensures) (c .before .before .before .before .before .before .before .before .if3 .left) (c .before .before .before .before .before .before .slope .ensures) (c .before .before .before .before .dot .ensures) (c .before .before .by-slope .ensures)
+
+pub segment-from-spec : {M : Type 1} → statement M
+segment-from-spec =
+    tie.close
+    (tie.spec
+    (λ c κs. search needs)
+    (λ c κs. search needs)
+    (λ c. search needs)
+    returns
+    (λ c κs. search needs)
+    (λ c. search needs)
+    returns-2
+    product-requires-2
+    (λ c. search needs)
+    returns-3
+    (λ c κs. search needs)
+    (λ c κs. search needs)
+    (λ c κs. search needs)
+    (λ c. search needs)
+    returns-4)

@@ -1,0 +1,53 @@
+-- `cauchy::stop_all` meets its contract: the path is on its way from where it was. Assumes nothing.
+use mathlib.Core.Path.{_≡_, refl, _∙_}
+use Prim.Native.Nat.{_-_}
+use native.Mathlib.Omega.{arith}
+use borrow.Author.Needs.{needs}
+use lib.ListN.{length}
+use Rattle.area.specs.Area.{view}
+use Rattle.cauchy.proofs.Paths.{Stopping, stopping-none, stopping-more, stopping-rest, stopping-past, stopped-event}
+use Rattle.cauchy.proofs.stop_all.Statement.{statement}
+use Rattle.cauchy.proofs.stop_all.Tie as tie
+
+abbrev Inv-loop : tie.InvT-loop
+Inv-loop area₀ n b t list q₀ area q = Stopping b t q₀ (view area₀ n) q (view area n) × (length area ≡ length area₀)
+
+abbrev μ-loop : tie.MeasureT-loop
+μ-loop area₀ n b t list q₀ area q = b .count - q .event
+
+loop-holds : tie.Need-loop-holds Inv-loop μ-loop
+loop-holds c = (stopping-none, refl)
+
+entry-requires : tie.Need-entry-requires Inv-loop μ-loop
+entry-requires c κs = omega (arith, c .before .before .before .before .before .before .pre .1 .few)
+
+stop-requires : tie.Need-stop-requires Inv-loop μ-loop
+stop-requires c κs = (omega (arith, c .before .before .before .before .before .before .before .loop .inv .1), rw (c .before .before .before .entry .ensures) (c .before .before .before .before .before .before .before .before .before .before .pre .1 .within _ (c .before .before .before .before .if1 .taken)), omega (arith, c .before .before .before .before .before .before .before .before .before .before .pre .1 .few))
+
+loop-less : tie.Need-loop-less Inv-loop μ-loop
+loop-less c = omega (arith, stopped-event (c .before .before .stop .ensures), c .before .before .before .before .before .before .before .if1 .taken)
+
+loop-again : tie.Need-loop-again Inv-loop μ-loop
+loop-again c = (stopping-more (c .before .before .before .before .before .before .before .before .before .before .before .before .before .pre .1) (c .before .before .before .before .before .before .before .before .before .before .loop .inv .0) (c .before .before .before .before .before .before .before .if1 .taken) (c .before .before .before .before .before .before .entry .ensures) (c .before .before .before .before .if2 .taken) (c .before .before .stop .ensures), c .before .area .given ∙ c .before .before .before .before .before .before .before .before .before .before .loop .inv .1)
+
+returns : tie.Need-returns Inv-loop μ-loop
+returns c = stopping-rest (c .before .before .before .before .before .before .before .before .before .pre .1) (c .before .before .before .before .before .before .loop .inv .0) (c .before .before .before .if1 .taken) (c .before .before .entry .ensures) (c .if2 .left)
+
+returns-2 : tie.Need-returns-2 Inv-loop μ-loop
+returns-2 c = stopping-past (c .before .before .before .loop .inv .0) (c .if1 .left)
+
+pub stop-all-spec : {M : Type 1} → statement M
+stop-all-spec =
+    tie.close
+    (tie.spec
+    Inv-loop
+    μ-loop
+    loop-holds
+    entry-requires
+    stop-requires
+    loop-less
+    loop-again
+    (λ c. search needs)
+    returns
+    (λ c. search needs)
+    returns-2)

@@ -1,0 +1,113 @@
+-- The definition's machine, read off a fit and the vectors of its area.
+use Prim.Native.Nat.{ℕ, _+_, _*_, _≤_, _<_}
+use mathlib.Core.Path.{_≡_}
+use mathlib.Core.List.{List}
+use mathlib.Core.Option.{Option}
+use lib.Ieee.{Float}
+use Rattle.definition.specs.Problem as P
+use Rattle.definition.specs.Compact as C
+use Rattle.definition.specs.Machine as M
+use Rattle.problem.specs.Setups.{floatOf, schemeOf, limitsOf}
+use Rattle.counters.specs.Counts.{countersOf, terminationOf}
+use Rattle.counters.specs.declared.Counters.{Counters}
+use Rattle.search.specs.State.{searchOf}
+use Rattle.compact.specs.State.{pairsOf, Sound}
+use Rattle.compact.specs.declared.Shape.{Shape}
+use Rattle.area.specs.Area.{Vecs, view, X, X0, G, Lower, Upper, Trial, TrialGradient, Direction}
+use Rattle.fit.specs.declared.Fit.{Fit}
+use Rattle.fit.specs.declared.Place.{Place}
+use Rattle.fit.specs.declared.Place.the-variants as W
+use Rattle.fit.specs.declared.Side.{Side}
+use Rattle.fit.specs.declared.Side.the-variants.{Right, Left}
+use Rattle.fit.specs.declared.Phase.{Phase}
+use Rattle.fit.specs.declared.Phase.the-variants.{Value, Gradient, Probe, Notice, Ended}
+
+abbrev pub placeOf : Place → M.Place
+placeOf W.Start = M.Place.start
+placeOf W.Trial = M.Place.trial
+
+abbrev pub sideOf : Side → M.Side
+sideOf Right = M.Side.right
+sideOf Left = M.Side.left
+
+abbrev pub phaseOf : Phase → M.Phase
+phaseOf (Value w) = M.Phase.value (placeOf w)
+phaseOf (Gradient w) = M.Phase.gradient (placeOf w)
+phaseOf (Probe w i s) = M.Phase.probe (placeOf w) i (sideOf s)
+phaseOf Notice = M.Phase.notice
+phaseOf (Ended t) = M.Phase.ended (terminationOf t)
+
+abbrev pub termsOf : Fit → Vecs → P.Terms
+termsOf t v = record {
+  n = t .shape .n;
+  bounds = record { lower = v Lower; upper = v Upper };
+  maxcor = t .shape .m;
+  eps = floatOf (t .options .eps);
+  scheme = schemeOf (t .options .scheme);
+}
+
+-- the pairs apart: they stand in slots that are computed
+abbrev pub machineWith : List C.Pair → Fit → Vecs → M.Machine
+machineWith ps t v = record {
+  terms = termsOf t v;
+  limits = limitsOf (t .limits);
+  held = record { x = v X; f = t .value; g = v G };
+  compact = record { pairs = ps; theta = t .theta };
+  trial = record { x = v Trial; f = t .trial; g = v TrialGradient };
+  direction = v Direction;
+  search = searchOf (t .search) (t .trials);
+  rightValue = t .right;
+  before = t .before;
+  counters = countersOf (t .counters);
+  phase = phaseOf (t .phase);
+}
+
+abbrev pub machine : Fit → Vecs → M.Machine
+machine t v = machineWith (pairsOf (t .shape) v) t v
+
+abbrev pub machineOf : Fit → List Float → M.Machine
+machineOf t a = machine t (view a (t .shape .n))
+
+-- room for another value question and another iteration
+pub record Small (k : Counters) : Type 0 where
+  pub nit : k .nit < 0x4000_0000_0000_0000
+  pub drawn : k .drawn < 0x4000_0000_0000_0000
+
+-- what is not the machine's stays: the options as given, and the log's numbers
+pub record Kept (t r : Fit) : Type 0 where
+  pub options : r .options ≡ t .options
+  pub entries : r .entries ≡ t .entries
+  pub words : r .words ≡ t .words
+
+-- r is t taken through F, whatever the area holds
+pub record Turns (F : M.Machine → M.Machine) (t r : Fit) : Type 0 where
+  pub shape : r .shape ≡ t .shape
+  pub kept : Kept t r
+  pub is : (v : Vecs) → machine r v ≡ F (machine t v)
+
+-- r with the area b is t with the area a taken through F
+pub record Steps (F : M.Machine → M.Machine) (t : Fit) (a : List Float) (r : Fit) (b : List Float) : Type 0 where
+  pub n : r .shape .n ≡ t .shape .n
+  pub m : r .shape .m ≡ t .shape .m
+  pub sound : (size : ℕ) → Sound (t .shape) size → Sound (r .shape) size
+  pub kept : Kept t r
+  pub x0 : view b (t .shape .n) X0 ≡ view a (t .shape .n) X0
+  pub is : machineOf r b ≡ F (machineOf t a)
+
+abbrev pub withPhase : Phase → Fit → Fit
+withPhase p t = record {
+  shape = t .shape;
+  options = t .options;
+  limits = t .limits;
+  counters = t .counters;
+  phase = p;
+  search = t .search;
+  trials = t .trials;
+  value = t .value;
+  trial = t .trial;
+  right = t .right;
+  before = t .before;
+  theta = t .theta;
+  entries = t .entries;
+  words = t .words;
+}

@@ -1,0 +1,52 @@
+-- `subspace::corrections` meets its contract: the first k columns are added. Assumes nothing.
+use mathlib.Core.Path.{_≡_, refl, _∙_}
+use Prim.Native.Nat.{_-_, _*_}
+use native.Mathlib.Omega.{arith}
+use lib.ListN.{length}
+use Rattle.float.proofs.Constants.{neg-zero-is}
+use Rattle.area.specs.Area.{view}
+use Rattle.compact.proofs.Laws.{vector-room, laws}
+use Rattle.subspace.proofs.Laws.{Added, added-none, added-more, added-done}
+use Rattle.subspace.proofs.corrections.Statement.{statement}
+use Rattle.subspace.proofs.corrections.Tie as tie
+
+abbrev Inv-loop : tie.InvT-loop
+Inv-loop area₀ h theta z size k₀ area k = Added h z (view area₀ (h .n)) (view area (h .n)) k × (length area ≡ length area₀)
+
+abbrev μ-loop : tie.MeasureT-loop
+μ-loop area₀ h theta z size k₀ area k = 2 * h .pairs - k
+
+loop-holds : tie.Need-loop-holds Inv-loop μ-loop
+loop-holds c = (added-none _ (rw neg-zero-is at (c .before .before .fill .ensures)), refl)
+
+add-column-requires : tie.Need-add-column-requires Inv-loop μ-loop
+add-column-requires c κs =
+    let s = rw (← c .before .before .before .before .before .area .given, ← c .before .before .before .loop .inv .1) at (c .before .before .before .before .before .before .before .before .before .before .pre .0) in
+    (omega (arith, vector-room 15 s (omega arith)), vector-room _ s (omega arith))
+
+loop-again : tie.Need-loop-again Inv-loop μ-loop
+loop-again c = (added-more (c .before .before .before .before .before .before .loop .inv .0) (omega arith) (c .before .before .add-column .ensures), c .before .area2 .given ∙ c .before .before .before .before .before .before .loop .inv .1)
+
+returns : tie.Need-returns Inv-loop μ-loop
+returns c = added-done (c .before .before .before .before .before .before .before .before .pre .1) (rw neg-zero-is at (c .before .before .before .before .fill .ensures)) (c .before .loop .inv .0) (omega arith)
+
+pub corrections-spec : {M : Type 1} → statement M
+corrections-spec =
+    tie.close
+    (tie.spec
+    Inv-loop
+    μ-loop
+    (λ c. search laws)
+    (λ c κs. search laws)
+    loop-holds
+    (λ c. search laws)
+    (λ c. search laws)
+    (λ c. search laws)
+    (λ c. search laws)
+    (λ c. search laws)
+    add-column-requires
+    (λ c. search laws)
+    (λ c. search laws)
+    loop-again
+    (λ c. search laws)
+    returns)

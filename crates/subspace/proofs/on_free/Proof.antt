@@ -1,0 +1,31 @@
+-- `subspace::on_free` meets its contract: residual, steps and target in turn. Assumes nothing.
+use borrow.Author.Needs.{needs}
+use Rattle.subspace.proofs.Makes.{model-kept, without-residual, without-steps, targets}
+use Rattle.subspace.proofs.on_free.Statement.{statement}
+use Rattle.subspace.proofs.on_free.Tie as tie
+
+returns : tie.Need-returns
+returns c = without-residual _ _ _ _ _ (c .before .before .before .residual .ensures) (c .if1 .taken)
+
+steps-requires : tie.Need-steps-requires
+steps-requires c κs = (search needs, model-kept (c .before .before .before .before .before .residual .ensures) (c .before .before .before .before .before .before .before .before .pre .1))
+
+returns-2 : tie.Need-returns-2
+returns-2 c = without-steps _ _ _ _ _ _ _ (c .before .before .before .before .before .before .before .before .before .residual .ensures) (c .before .before .before .before .before .before .if1 .left) (c .before .before .before .steps .ensures) (c .if2 .taken)
+
+returns-3 : tie.Need-returns-3
+returns-3 c = targets _ _ _ _ _ _ _ _ _ (c .before .before .before .before .before .before .before .before .before .before .before .before .before .residual .ensures) (c .before .before .before .before .before .before .before .before .before .before .if1 .left) (c .before .before .before .before .before .before .before .steps .ensures) (c .before .before .before .before .if2 .left) (c .before .before .moved-by .ensures)
+
+pub on-free-spec : {M : Type 1} → statement M
+on-free-spec =
+    tie.close
+    (tie.spec
+    (λ c κs. search needs)
+    (λ c. search needs)
+    returns
+    steps-requires
+    (λ c. search needs)
+    returns-2
+    (λ c κs. search needs)
+    (λ c. search needs)
+    returns-3)

@@ -1,0 +1,57 @@
+-- `subspace::reduced_right` meets its contract: the first i products are made, from the columns as they stand. Assumes nothing.
+use mathlib.Core.Path.{_∙_}
+use Prim.Native.Nat.{_-_, _*_}
+use native.Mathlib.Omega.{arith}
+use Rattle.definition.specs.Number.{zero64, times}
+use Rattle.definition.specs.Vector.{word}
+use Rattle.definition.specs.Compact.{columnWord}
+use Rattle.definition.specs.Geometry.{freeSum}
+use Rattle.area.specs.Area.{view, Cauchy, ProductD}
+use Rattle.compact.specs.State.{compactOf}
+use Rattle.compact.proofs.Laws.{Padding, padding-none, padding-more, padding-done, pairs-count, vector-room, laws}
+use Rattle.subspace.specs.State.{boundsOf}
+use Rattle.subspace.proofs.Laws.{right-is}
+use Rattle.subspace.proofs.reduced_right.Statement.{statement}
+use Rattle.subspace.proofs.reduced_right.Tie as tie
+
+abbrev Inv-loop : tie.InvT-loop
+Inv-loop area h theta size r₀ i₀ r i =
+    let v = view area (h .n) in
+    Padding zero64 (2 * h .pairs) (λ i. freeSum (h .n) (boundsOf v) (v Cauchy) (λ k. times (columnWord (compactOf h theta v) i k) (word (v ProductD) k))) r i
+
+abbrev μ-loop : tie.MeasureT-loop
+μ-loop area h theta size r₀ i₀ r i = 2 * h .pairs - i
+
+loop-holds : tie.Need-loop-holds Inv-loop μ-loop
+loop-holds c = padding-none (omega arith) (c .zeros .ensures)
+
+free-sum-requires : tie.Need-free-sum-requires Inv-loop μ-loop
+free-sum-requires c κs =
+    let s = c .before .before .before .before .before .before .pre .0 in
+    (omega arith, vector-room _ s (omega arith), vector-room _ s (omega arith))
+
+loop-again : tie.Need-loop-again Inv-loop μ-loop
+loop-again c = padding-more (c .before .before .before .loop .inv) (omega arith) (c .free-sum .ensures ∙ right-is _ (c .before .before .before .before .before .before .before .pre .1) (omega arith))
+
+returns : tie.Need-returns Inv-loop μ-loop
+returns c = rw pairs-count (padding-done (c .before .loop .inv) (omega arith))
+
+pub reduced-right-spec : {M : Type 1} → statement M
+reduced-right-spec =
+    tie.close
+    (tie.spec
+    Inv-loop
+    μ-loop
+    (λ c. search laws)
+    (λ c κs. search laws)
+    loop-holds
+    (λ c. search laws)
+    (λ c. search laws)
+    (λ c. search laws)
+    free-sum-requires
+    (λ c. search laws)
+    (λ c. search laws)
+    (λ c. search laws)
+    (λ c. search laws)
+    loop-again
+    returns)

@@ -1,0 +1,41 @@
+-- `subspace::reduced_row` meets its contract: the first j entries are made. Assumes nothing.
+use Prim.Native.Nat.{_-_, _*_}
+use native.Mathlib.Omega.{arith}
+use Rattle.definition.specs.Number.{zero64}
+use Rattle.area.specs.Area.{view}
+use Rattle.compact.proofs.Laws.{Padding, padding-none, laws}
+use Rattle.subspace.specs.State.{reducedOf}
+use Rattle.subspace.proofs.reduced_row.Statement.{statement}
+use Rattle.subspace.proofs.reduced_row.Tie as tie
+
+abbrev Inv-loop : tie.InvT-loop
+Inv-loop area h theta block i size r₀ j₀ r j = Padding zero64 (2 * h .pairs) (reducedOf h theta (view area (h .n)) i) r j
+
+abbrev μ-loop : tie.MeasureT-loop
+μ-loop area h theta block i size r₀ j₀ r j = 2 * h .pairs - j
+
+loop-holds : tie.Need-loop-holds Inv-loop μ-loop
+loop-holds c = padding-none (omega arith) (c .zeros .ensures)
+
+loop-again : tie.Need-loop-again Inv-loop μ-loop
+loop-again c = search laws
+
+returns : tie.Need-returns Inv-loop μ-loop
+returns c = search laws
+
+pub reduced-row-spec : {M : Type 1} → statement M
+reduced-row-spec =
+    tie.close
+    (tie.spec
+    Inv-loop
+    μ-loop
+    (λ c. search laws)
+    (λ c κs. search laws)
+    loop-holds
+    (λ c κs. search laws)
+    (λ c. search laws)
+    (λ c. search laws)
+    (λ c. search laws)
+    (λ c. search laws)
+    loop-again
+    returns)

@@ -1,0 +1,27 @@
+-- `subspace::residual` meets its contract: the difference, its product, and the gradient added. Assumes nothing.
+use native.Mathlib.Omega.{arith}
+use borrow.Author.Needs.{needs}
+use Rattle.subspace.proofs.Makes.{differenced, no-residual, a-residual}
+use Rattle.subspace.proofs.residual.Statement.{statement}
+use Rattle.subspace.proofs.residual.Tie as tie
+
+product-requires : tie.Need-product-requires
+product-requires c κs = (search needs, differenced (c .before .before .before .difference .ensures) (c .before .before .before .before .before .before .pre .1), omega arith, omega arith)
+
+returns : tie.Need-returns
+returns c = no-residual _ _ _ _ _ _ (c .before .before .before .before .before .before .before .difference .ensures) (c .before .before .before .product .ensures) (c .if1 .taken)
+
+returns-2 : tie.Need-returns-2
+returns-2 c = a-residual _ _ _ _ _ _ _ (c .before .before .before .before .before .before .before .before .before .before .before .difference .ensures) (c .before .before .before .before .before .before .before .product .ensures) (c .before .before .before .before .if1 .left) (c .before .before .add-gradient .ensures)
+
+pub residual-spec : {M : Type 1} → statement M
+residual-spec =
+    tie.close
+    (tie.spec
+    (λ c κs. search needs)
+    product-requires
+    (λ c. search needs)
+    returns
+    (λ c κs. search needs)
+    (λ c. search needs)
+    returns-2)

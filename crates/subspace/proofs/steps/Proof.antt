@@ -1,0 +1,36 @@
+-- `subspace::steps` meets its contract: without pairs, without a solution, and with one. Assumes nothing.
+use borrow.Author.Needs.{needs}
+use Rattle.subspace.proofs.Makes.{plain, by-weights, no-steps, with-steps}
+use Rattle.subspace.proofs.steps.Statement.{statement}
+use Rattle.subspace.proofs.steps.Tie as tie
+
+returns : tie.Need-returns
+returns c = plain _ _ _ _ (c .before .before .before .before .if1 .taken) (c .before .before .plain-steps .ensures)
+
+returns-2 : tie.Need-returns-2
+returns-2 c =
+    let w = c .before .before .solve .result in
+    no-steps _ _ _ (w .ok) (w .x) (by-weights _ _ _ _ _ _ (c .before .before .before .before .before .before .before .before .if1 .left) (c .before .before .before .before .before .before .reduced .ensures) (c .before .before .before .before .reduced-right .ensures) (c .before .before .solve .ensures)) (c .if2 .taken)
+
+returns-3 : tie.Need-returns-3
+returns-3 c =
+    let w = c .before .before .before .before .before .before .before .before .before .before .before .solve .result in
+    with-steps _ _ _ _ _ (w .ok) (w .x) (by-weights _ _ _ _ _ _ (c .before .before .before .before .before .before .before .before .before .before .before .before .before .before .before .before .before .if1 .left) (c .before .before .before .before .before .before .before .before .before .before .before .before .before .before .before .reduced .ensures) (c .before .before .before .before .before .before .before .before .before .before .before .before .before .reduced-right .ensures) (c .before .before .before .before .before .before .before .before .before .before .before .solve .ensures)) (c .before .before .before .before .before .before .before .before .before .if2 .left) (c .before .before .before .before .before .before .corrections .ensures) (c .before .before .weighted-steps .ensures)
+
+pub steps-spec : {M : Type 1} → statement M
+steps-spec =
+    tie.close
+    (tie.spec
+    (λ c κs. search needs)
+    (λ c. search needs)
+    returns
+    (λ c κs. search needs)
+    (λ c κs. search needs)
+    (λ c. search needs)
+    (λ c κs. search needs)
+    (λ c. search needs)
+    returns-2
+    (λ c κs. search needs)
+    (λ c κs. search needs)
+    (λ c. search needs)
+    returns-3)

@@ -1,0 +1,420 @@
+// The minimum over the free coordinates of the Cauchy point, and the end that the direction leads to.
+ghost use mathlib.Core.Path.{_≡_};
+ghost use mathlib.Core.Bool.{cond};
+ghost use Prim.Native.Nat.{ℕ, _+_, _*_, _≤_, _<_};
+ghost use lib.ListN.{length};
+ghost use lib.Ieee as Ieee;
+ghost use lib.Ieee.{Float};
+ghost use Rattle.definition.specs.Number.{plus, times, zero64};
+ghost use Rattle.definition.specs.Vector.{tab};
+ghost use Rattle.definition.specs.Compact.{padded, paddedRows};
+ghost use Rattle.definition.specs.Geometry.{anyFree, correction, shareOf, moved as movedOf};
+ghost use Rattle.area.specs.Area.{view, upd, wordsAt, rowwise, Cauchy, Target, ProductD, ProductZ, Step, G};
+ghost use Rattle.compact.specs.State.{compactOf, Sound, Laid, Modelled};
+ghost use Rattle.subspace.specs.State.{freeIn, freeTerm, plainIn, weightedIn, shortenedIn, shareIn, movedIn, headIn, boundsOf};
+ghost use Rattle.subspace.specs.State.{freeSumOf, reducedOf, rightOf, residualOf, stepsOf, movedBy, onFree, minimizeOf, Makes, Minimizes, headed};
+
+// ---- free coordinates
+
+// Whether coordinate i of the Cauchy point lies strictly between its bounds.
+fn is_free(area: &[f64], n: usize, i: usize) -> bool
+    requires { ⌜ (16 * n ≤ length (now area)) × (i < n) ⌝ }
+    ensures { λ r. ⌜ r ≡ freeIn (wordsAt (now (area .entry)) n i) ⌝ }
+{
+    let x = area[area::CAUCHY * n + i];
+    if area[area::LOWER * n + i] < x {
+        return x < area[area::UPPER * n + i];
+    }
+    false
+}
+
+// Whether any coordinate of the Cauchy point is free.
+fn any_free(area: &[f64], n: usize) -> bool
+    requires { ⌜ 16 * n ≤ length (now area) ⌝ }
+    ensures { λ r. ⌜ r ≡ anyFree n (boundsOf (view (now (area .entry)) n)) (view (now (area .entry)) n Cauchy) ⌝ }
+{
+    let mut i = 0;
+    while i < n {
+        if is_free(area, n, i) {
+            return true;
+        }
+        i += 1;
+    }
+    false
+}
+
+// The sum s, and the product of the words at i of vectors p and q where i is free.
+fn free_term(area: &[f64], n: usize, p: usize, q: usize, i: usize, s: f64) -> f64
+    requires { ⌜ (16 * n ≤ length (now area)) × (p * n + n ≤ length (now area)) × (q * n + n ≤ length (now area)) × (i < n) ⌝ }
+    ensures { λ r. ⌜ r ≡ freeTerm p q (wordsAt (now (area .entry)) n i) s ⌝ }
+{
+    if is_free(area, n, i) {
+        return s + area[p * n + i] * area[q * n + i];
+    }
+    s
+}
+
+// The product of vectors p and q over the free coordinates, from the left and from -0.0.
+fn free_sum(area: &[f64], n: usize, p: usize, q: usize) -> f64
+    requires { ⌜ (16 * n ≤ length (now area)) × (p * n + n ≤ length (now area)) × (q * n + n ≤ length (now area)) ⌝ }
+    ensures { λ r. ⌜ r ≡ freeSumOf n (view (now (area .entry)) n) p q ⌝ }
+{
+    let mut s = float::NEG_ZERO;
+    let mut i = 0;
+    while i < n {
+        s = free_term(area, n, p, q, i, s);
+        i += 1;
+    }
+    s
+}
+
+// ---- the residual B (cauchy - x) + g
+
+// The product with the displacement, and the gradient.
+fn add_gradient(area: &mut [f64], n: usize)
+    requires { ⌜ 16 * n ≤ length (now area) ⌝ }
+    ensures { λ _. ⌜ view (now (area .exit)) n ≡ rowwise n ProductD (λ (i : ℕ) w. plus (w ProductZ) (w G)) (view (now (area .entry)) n) ⌝ }
+{
+    let mut i = 0;
+    while i < n {
+        area[area::PRODUCT_D * n + i] = area[area::PRODUCT_Z * n + i] + area[area::G * n + i];
+        i += 1;
+    }
+}
+
+// The residual in its vector; false where there is no product with the displacement.
+fn residual(area: &mut [f64], h: compact::Shape, theta: f64, block: [[f64; 32]; 32]) -> bool
+    requires { ⌜ Sound h (length (now area)) × Modelled h theta block (view (now area) (h .n)) ⌝ }
+    ensures { λ r. ⌜ Makes ProductD (residualOf h theta (view (now (area .entry)) (h .n))) (view (now (area .entry)) (h .n)) r (view (now (area .exit)) (h .n)) ⌝ }
+{
+    area::difference(area, h.n, area::DISPLACEMENT, area::CAUCHY, area::X);
+    let found = compact::product(area, h, theta, block, area::PRODUCT_Z, area::DISPLACEMENT);
+    if !found {
+        return false;
+    }
+    add_gradient(area, h.n);
+    true
+}
+
+// ---- the reduced system
+
+// Entry i, j of the block, less the product of the two columns over the free coordinates, by theta.
+fn reduced_entry(
+    area: &[f64],
+    h: compact::Shape,
+    theta: f64,
+    block: &[[f64; 32]; 32],
+    i: usize,
+    j: usize,
+) -> f64
+    requires { ⌜ Sound h (length (now area)) × Modelled h theta (now block) (view (now area) (h .n)) × (i < 2 * h .pairs) × (j < 2 * h .pairs) ⌝ }
+    ensures { λ r. ⌜ r ≡ reducedOf h theta (view (now (area .entry)) (h .n)) i j ⌝ }
+{
+    let columns = 16 + 2 * h.m;
+    let s = free_sum(area, h.n, columns + i, columns + j);
+    block[i][j] - s / theta
+}
+
+// Row i of the reduced matrix.
+fn reduced_row(
+    area: &[f64],
+    h: compact::Shape,
+    theta: f64,
+    block: &[[f64; 32]; 32],
+    i: usize,
+) -> [f64; 32]
+    requires { ⌜ Sound h (length (now area)) × Modelled h theta (now block) (view (now area) (h .n)) × (i < 2 * h .pairs) ⌝ }
+    ensures { λ r. ⌜ r ≡ padded zero64 (2 * h .pairs) (reducedOf h theta (view (now (area .entry)) (h .n)) i) ⌝ }
+{
+    let size = 2 * h.pairs;
+    let mut r = compact::zeros();
+    let mut j = 0;
+    while j < size {
+        r[j] = reduced_entry(area, h, theta, block, i, j);
+        j += 1;
+    }
+    r
+}
+
+// The reduced matrix, 2 rows and columns for each pair.
+fn reduced(area: &[f64], h: compact::Shape, theta: f64, block: &[[f64; 32]; 32]) -> [[f64; 32]; 32]
+    requires { ⌜ Sound h (length (now area)) × Modelled h theta (now block) (view (now area) (h .n)) ⌝ }
+    ensures { λ r. ⌜ r ≡ paddedRows (compactOf h theta (view (now (area .entry)) (h .n))) (reducedOf h theta (view (now (area .entry)) (h .n))) ⌝ }
+{
+    let size = 2 * h.pairs;
+    let mut b = compact::zero_rows();
+    let mut i = 0;
+    while i < size {
+        let r = reduced_row(area, h, theta, block, i);
+        b[i] = r;
+        i += 1;
+    }
+    b
+}
+
+// The columns' products with the residual over the free coordinates.
+fn reduced_right(area: &[f64], h: compact::Shape, theta: f64) -> [f64; 32]
+    requires { ⌜ Sound h (length (now area)) × Laid h theta (view (now area) (h .n)) ⌝ }
+    ensures { λ r. ⌜ r ≡ rightOf h theta (view (now (area .entry)) (h .n)) ⌝ }
+{
+    let size = 2 * h.pairs;
+    let mut r = compact::zeros();
+    let mut i = 0;
+    while i < size {
+        r[i] = free_sum(area, h.n, 16 + 2 * h.m + i, area::PRODUCT_D);
+        i += 1;
+    }
+    r
+}
+
+// ---- the step over the free coordinates
+
+// The step becomes itself and vector q times w.
+fn add_column(area: &mut [f64], n: usize, q: usize, w: f64)
+    requires { ⌜ (16 * n ≤ length (now area)) × (q * n + n ≤ length (now area)) ⌝ }
+    ensures { λ _. ⌜ view (now (area .exit)) n ≡ rowwise n Step (λ (i : ℕ) v. plus (v Step) (times (v q) w)) (view (now (area .entry)) n) ⌝ }
+{
+    let mut i = 0;
+    while i < n {
+        area[area::STEP * n + i] = area[area::STEP * n + i] + area[q * n + i] * w;
+        i += 1;
+    }
+}
+
+// The step becomes what the columns with the weights z add to the residual.
+fn corrections(area: &mut [f64], h: compact::Shape, theta: f64, z: [f64; 32])
+    requires { ⌜ Sound h (length (now area)) × Laid h theta (view (now area) (h .n)) ⌝ }
+    ensures { λ _. ⌜ view (now (area .exit)) (h .n) ≡ upd (view (now (area .entry)) (h .n)) Step (tab (h .n) (correction (compactOf h theta (view (now (area .entry)) (h .n))) z)) ⌝ }
+{
+    let size = 2 * h.pairs;
+    area::fill(area, h.n, area::STEP, float::NEG_ZERO);
+    let mut k = 0;
+    while k < size {
+        add_column(area, h.n, 16 + 2 * h.m + k, z[k]);
+        k += 1;
+    }
+}
+
+// The step at i where there are no pairs: 0 where i is not free.
+fn plain_at(area: &[f64], n: usize, theta: f64, i: usize) -> f64
+    requires { ⌜ (16 * n ≤ length (now area)) × (i < n) ⌝ }
+    ensures { λ r. ⌜ r ≡ plainIn theta (wordsAt (now (area .entry)) n i) ⌝ }
+{
+    if is_free(area, n, i) {
+        return -area[area::PRODUCT_D * n + i] / theta;
+    }
+    0.0
+}
+
+// Every step, without pairs.
+fn plain_steps(area: &mut [f64], n: usize, theta: f64)
+    requires { ⌜ 16 * n ≤ length (now area) ⌝ }
+    ensures { λ _. ⌜ view (now (area .exit)) n ≡ rowwise n Step (λ (i : ℕ). plainIn theta) (view (now (area .entry)) n) ⌝ }
+{
+    let mut i = 0;
+    while i < n {
+        let v = plain_at(area, n, theta, i);
+        area[area::STEP * n + i] = v;
+        i += 1;
+    }
+}
+
+// The step at i, its correction standing in its place: 0 where i is not free.
+fn weighted_at(area: &[f64], n: usize, theta: f64, i: usize) -> f64
+    requires { ⌜ (16 * n ≤ length (now area)) × (i < n) ⌝ }
+    ensures { λ r. ⌜ r ≡ weightedIn theta (wordsAt (now (area .entry)) n i) ⌝ }
+{
+    if is_free(area, n, i) {
+        return -(area[area::PRODUCT_D * n + i] + area[area::STEP * n + i] / theta) / theta;
+    }
+    0.0
+}
+
+// Every step, by its correction.
+fn weighted_steps(area: &mut [f64], n: usize, theta: f64)
+    requires { ⌜ 16 * n ≤ length (now area) ⌝ }
+    ensures { λ _. ⌜ view (now (area .exit)) n ≡ rowwise n Step (λ (i : ℕ). weightedIn theta) (view (now (area .entry)) n) ⌝ }
+{
+    let mut i = 0;
+    while i < n {
+        let v = weighted_at(area, n, theta, i);
+        area[area::STEP * n + i] = v;
+        i += 1;
+    }
+}
+
+// The steps, by the reduced system's weights where there are pairs.
+fn steps(area: &mut [f64], h: compact::Shape, theta: f64, block: &[[f64; 32]; 32]) -> bool
+    requires { ⌜ Sound h (length (now area)) × Modelled h theta (now block) (view (now area) (h .n)) ⌝ }
+    ensures { λ r. ⌜ Makes Step (stepsOf h theta (view (now (area .entry)) (h .n))) (view (now (area .entry)) (h .n)) r (view (now (area .exit)) (h .n)) ⌝ }
+{
+    if h.pairs == 0 {
+        plain_steps(area, h.n, theta);
+        return true;
+    }
+    let a = reduced(area, h, theta, block);
+    let y = reduced_right(area, h, theta);
+    let w = solve::solve(2 * h.pairs, a, y);
+    if !w.ok {
+        return false;
+    }
+    let z = w.x;
+    corrections(area, h, theta, z);
+    weighted_steps(area, h.n, theta);
+    true
+}
+
+// ---- the target
+
+// How far coordinate i, which is free, lets the step go.
+fn shortened(area: &[f64], n: usize, i: usize, alpha: f64) -> f64
+    requires { ⌜ (16 * n ≤ length (now area)) × (i < n) ⌝ }
+    ensures { λ r. ⌜ r ≡ shortenedIn (wordsAt (now (area .entry)) n i) alpha ⌝ }
+{
+    let x = area[area::CAUCHY * n + i];
+    let step = area[area::STEP * n + i];
+    if 0.0 < step {
+        return float::min(alpha, (area[area::UPPER * n + i] - x) / step);
+    }
+    if step < 0.0 {
+        return float::min(alpha, (area[area::LOWER * n + i] - x) / step);
+    }
+    alpha
+}
+
+// What coordinate i leaves of alpha.
+fn share_at(area: &[f64], n: usize, i: usize, alpha: f64) -> f64
+    requires { ⌜ (16 * n ≤ length (now area)) × (i < n) ⌝ }
+    ensures { λ r. ⌜ r ≡ shareIn (wordsAt (now (area .entry)) n i) alpha ⌝ }
+{
+    if is_free(area, n, i) {
+        return shortened(area, n, i, alpha);
+    }
+    alpha
+}
+
+// The share of the step that keeps every free coordinate within its bounds.
+fn share(area: &[f64], n: usize) -> f64
+    requires { ⌜ 16 * n ≤ length (now area) ⌝ }
+    ensures { λ r. ⌜ r ≡ shareOf n (boundsOf (view (now (area .entry)) n)) (view (now (area .entry)) n Cauchy) (view (now (area .entry)) n Step) ⌝ }
+{
+    let mut alpha = 1.0;
+    let mut i = 0;
+    while i < n {
+        alpha = share_at(area, n, i, alpha);
+        i += 1;
+    }
+    alpha
+}
+
+// Word i of the target.
+fn moved_at(area: &[f64], n: usize, alpha: f64, i: usize) -> f64
+    requires { ⌜ (16 * n ≤ length (now area)) × (i < n) ⌝ }
+    ensures { λ r. ⌜ r ≡ movedIn alpha (wordsAt (now (area .entry)) n i) ⌝ }
+{
+    let x = area[area::CAUCHY * n + i];
+    if is_free(area, n, i) {
+        let low = area[area::LOWER * n + i];
+        let high = area[area::UPPER * n + i];
+        return float::clamp(x + alpha * area[area::STEP * n + i], low, high);
+    }
+    x
+}
+
+// The target: the Cauchy point, its free coordinates moved by alpha times the step and brought into the box.
+fn moved(area: &mut [f64], n: usize, alpha: f64) -> bool
+    requires { ⌜ 16 * n ≤ length (now area) ⌝ }
+    ensures { λ r. ⌜ Makes Target (movedOf n (boundsOf (view (now (area .entry)) n)) (view (now (area .entry)) n Cauchy) (view (now (area .entry)) n Step) alpha) (view (now (area .entry)) n) r (view (now (area .exit)) n) ⌝ }
+{
+    let mut i = 0;
+    while i < n {
+        let v = moved_at(area, n, alpha, i);
+        area[area::TARGET * n + i] = v;
+        i += 1;
+    }
+    area::all_finite(area, n, area::TARGET)
+}
+
+// The target by the share that the bounds leave, where the steps are finite.
+fn moved_by(area: &mut [f64], n: usize) -> bool
+    requires { ⌜ 16 * n ≤ length (now area) ⌝ }
+    ensures { λ r. ⌜ Makes Target (movedBy n (view (now (area .entry)) n)) (view (now (area .entry)) n) r (view (now (area .exit)) n) ⌝ }
+{
+    if !area::all_finite(area, n, area::STEP) {
+        return false;
+    }
+    let alpha = share(area, n);
+    moved(area, n, alpha)
+}
+
+// The target where a coordinate is free.
+fn on_free(area: &mut [f64], h: compact::Shape, theta: f64, block: [[f64; 32]; 32]) -> bool
+    requires { ⌜ Sound h (length (now area)) × Modelled h theta block (view (now area) (h .n)) ⌝ }
+    ensures { λ r. ⌜ Makes Target (onFree h theta (view (now (area .entry)) (h .n))) (view (now (area .entry)) (h .n)) r (view (now (area .exit)) (h .n)) ⌝ }
+{
+    let found = residual(area, h, theta, block);
+    if !found {
+        return false;
+    }
+    let made = steps(area, h, theta, &block);
+    if !made {
+        return false;
+    }
+    moved_by(area, h.n)
+}
+
+// `primal_minimize`: the minimum over the free coordinates of the Cauchy point becomes the target; false where there is none.
+pub fn primal_minimize(
+    area: &mut [f64],
+    h: compact::Shape,
+    theta: f64,
+    block: [[f64; 32]; 32],
+) -> bool
+    requires { ⌜ Sound h (length (now area)) × Modelled h theta block (view (now area) (h .n)) ⌝ }
+    ensures { λ r. ⌜ Minimizes (minimizeOf h theta (view (now (area .entry)) (h .n))) (view (now (area .entry)) (h .n)) r (view (now (area .exit)) (h .n)) ⌝ }
+{
+    if any_free(area, h.n) {
+        return on_free(area, h, theta, block);
+    }
+    area::copy(area, h.n, area::TARGET, area::CAUCHY);
+    true
+}
+
+// ---- the end of the direction
+
+// The target, unless it lies uphill. A slope that is no number keeps the target.
+pub fn end<'a>(target: &'a [f64], cauchy: &'a [f64], slope: f64) -> &'a [f64]
+    ensures { λ r. ⌜ now r ≡ cond (Ieee.le zero64 slope) (now (cauchy .entry)) (now (target .entry)) ⌝ }
+{
+    if 0.0 <= slope { cauchy } else { target }
+}
+
+// Word i of the chosen end, less that of x.
+fn head_at(area: &[f64], n: usize, slope: f64, i: usize) -> f64
+    requires { ⌜ (16 * n ≤ length (now area)) × (i < n) ⌝ }
+    ensures { λ r. ⌜ r ≡ headIn slope (wordsAt (now (area .entry)) n i) ⌝ }
+{
+    let t = area::TARGET * n;
+    let t_end = t + n;
+    let c = area::CAUCHY * n;
+    let c_end = c + n;
+    let target = &area[t..t_end];
+    let cauchy = &area[c..c_end];
+    let to = end(target, cauchy, slope);
+    to[i] - area[area::X * n + i]
+}
+
+// The direction leads from x to the target, or to the Cauchy point where the target lies uphill.
+pub fn head(area: &mut [f64], n: usize)
+    requires { ⌜ 16 * n ≤ length (now area) ⌝ }
+    ensures { λ _. ⌜ ((f : Float) → view (now (area .exit)) n ≡ headed n f (view (now (area .entry)) n)) ⌝ }
+{
+    area::difference(area, n, area::DIRECTION, area::TARGET, area::X);
+    let slope = area::dot(area, n, area::G, area::DIRECTION);
+    let mut i = 0;
+    while i < n {
+        let v = head_at(area, n, slope, i);
+        area[area::DIRECTION * n + i] = v;
+        i += 1;
+    }
+}

@@ -1,0 +1,34 @@
+-- `trial::search_along` meets its contract: it ends, or tries the first step. Assumes nothing.
+use mathlib.Core.Path.{ap}
+use borrow.Author.Needs.{needs}
+use Rattle.search.specs.State.{nextOf}
+use Rattle.fit.proofs.Laws.{still, steps-as, first-room}
+use Rattle.trial.proofs.Laws.{along}
+use Rattle.trial.proofs.search_along.Statement.{statement}
+use Rattle.trial.proofs.search_along.Tie as tie
+
+begin-search-requires : tie.Need-begin-search-requires
+begin-search-requires c κs = first-room (c .before .before .pre .0)
+
+returns : tie.Need-returns
+returns c =
+    still (c .ended .ensures) (along _ (c .before .before .before .begin-search .ensures) (ap nextOf (c .before .enum-told .given .1)))
+
+returns-2 : tie.Need-returns-2
+returns-2 c =
+    let h = c .before .before .before .before .before in
+    steps-as (c .before .before .try-step .ensures) (along _ (h .before .before .begin-search .ensures) (ap nextOf (h .next .given .1)))
+
+pub search-along-spec : {M : Type 1} → statement M
+search-along-spec =
+    tie.close
+    (tie.spec
+    begin-search-requires
+    (λ c. search needs)
+    (λ c. search needs)
+    (λ c κs. search needs)
+    (λ c. search needs)
+    returns
+    (λ c κs. search needs)
+    (λ c. search needs)
+    returns-2)
