@@ -14,14 +14,14 @@ use Rattle.definition.specs.Search.{Search}
 use Rattle.definition.specs.Machine.{Reply, Question, State, Place, Side, Phase, Machine, probePoint, questionIn, question}
 use Rattle.definition.specs.Driver.{run}
 use Rattle.definition.specs.Replies.{Accepted, Due}
-use Rattle.definition.specs.Facts.{IfGiven}
+use Rattle.definition.specs.Values.{Given}
 use Rattle.definition.specs.Points.{isTrial, searching, InBox, EachFinite, SearchRuns, ProbeOf}
 use Rattle.definition.proofs.Order.{le-right-not-nan}
 use Rattle.definition.proofs.Trials.{step-le-limit}
 use Rattle.definition.proofs.Inside.{probe-of, probe-in-box}
 use Rattle.definition.proofs.Sound.{Line, AtPlace, FactsIn, sound}
 
-given-some : {A : Type 0} (P : A → Type 0) (o : Option A) {a : A} → IfGiven P o → o ≡ some a → P a
+given-some : {A : Type 0} (P : A → Type 0) (o : Option A) {a : A} → Given P o → o ≡ some a → P a
 given-some P o h e = rw e at h
 
 -- ---- in the machine's own terms
@@ -31,7 +31,7 @@ probe-in : (m : Machine) (w : Place) (i : ℕ) (side : Side) → InBox (m .terms
 probe-in m w i side t f = probe-of (m .terms) (m .trial .x) i side t (f .1) (f .2)
 
 asked-in : (m : Machine) (p : Phase) → InBox (m .terms) (m .held .x) → InBox (m .terms) (m .trial .x) → FactsIn m p
-    → IfGiven (λ (q : Question). InBox (m .terms) (q .point)) (questionIn m p)
+    → Given (λ (q : Question). InBox (m .terms) (q .point)) (questionIn m p)
 asked-in m (Phase.value w) h t f = t
 asked-in m (Phase.gradient w) h t f = t
 asked-in m (Phase.probe w i side) h t f = probe-in-box (m .terms) (m .trial .x) i side _ t (probe-in m w i side t f)

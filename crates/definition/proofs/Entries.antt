@@ -4,26 +4,21 @@ use Prim.Native.Nat.{ℕ, zero, suc, _+_, _-_, _≤_, _<_}
 use native.Mathlib.Nat.{zero-add}
 use native.Mathlib.Omega.{arith}
 use mathlib.Core.Path.{_≡_, refl, sym, ap, ap₂, _∙_, subst}
-use mathlib.Core.Bool.{Bool, true, false, not, cond}
+use mathlib.Core.Bool.{Bool, true, false, cond}
 use mathlib.Core.List.{List, [], _∷_, _++_, append-assoc, append-nil}
 use mathlib.Core.Option.{Option, none, some}
 use lib.Dec.{eqb, ltb}
 use lib.ListN.{length, take, drop, length-append, length-drop, take-append-drop}
 use lib.Seq.{take-at, drop-at, length-take-le}
-use borrow.Author.Tests.{eqb-true, ltb-false, le-ltb, not-false}
-use Rattle.definition.specs.Problem.{Setup, Check, refuse, when}
-use Rattle.definition.specs.Machine.{Reply, Machine, takes, checkLength, checkDue}
+use borrow.Author.Tests.{eqb-true, ltb-false, le-ltb}
+use Rattle.definition.specs.Problem.{Setup, Check}
+use Rattle.definition.specs.Machine.{Reply, Machine, checkDue}
 use Rattle.definition.specs.Driver.{answer, begin, run}
 use Rattle.definition.specs.Log.{entryWords, logWords, valueEntry, gradientEntry, entryOf, Entries, admitDue, admit, nextEntry, readEntries, entriesOf}
 use Rattle.definition.specs.Replies.{Due}
-use Rattle.definition.proofs.Setups.{both-passed, test-failed}
+use Rattle.definition.proofs.Accepted.{due-length}
 
 -- ---- one entry, from its words
-
-pub gradient-length : (m : Machine) (ws : List ℕ) → checkDue m (Reply.gradient ws) ≡ none → length ws ≡ m .terms .n
-gradient-length m ws e =
-    let p = both-passed (when (not (takes m (Reply.gradient ws))) (refuse 13 0 0)) (checkLength (m .terms .n) (Reply.gradient ws)) e in
-    eqb-true (length ws) (m .terms .n) (not-false (eqb (length ws) (m .terms .n)) (test-failed (not (eqb (length ws) (m .terms .n))) _ (p .1)))
 
 module _ (room : ℕ) (rs : List Reply) (m : Machine) (rest : List ℕ) where
   admitted : (r : Reply) (ws : List ℕ) → checkDue m r ≡ none → length (logWords rs) + length (entryWords r) ≤ room → drop (length (entryWords r) - 1) ws ≡ rest
@@ -34,7 +29,7 @@ module _ (room : ℕ) (rs : List Reply) (m : Machine) (rest : List ℕ) where
       → nextEntry room (entryWords r ++ rest) rs m ≡ Entries.going rest (r ∷ rs) (answer m r)
   entry-read (Reply.value v) d f = admitted (Reply.value v) (v ∷ rest) d f refl
   entry-read (Reply.gradient ws) d f =
-      let e = gradient-length m ws d in
+      let e = due-length m ws d in
       let long : ltb (length (ws ++ rest)) (m .terms .n) ≡ false = le-ltb (length (ws ++ rest)) (m .terms .n) (omega (arith, length-append ws rest)) in
       rw (long, take-at ws rest (m .terms .n) e) (admitted (Reply.gradient ws) (ws ++ rest) d f (drop-at ws rest (suc (length ws) - 1) (omega arith)))
   entry-read Reply.notSupplied d f = admitted Reply.notSupplied rest d f refl
@@ -80,15 +75,15 @@ same-reading (suc a) (suc b) most room (Entries.refusedAt c) h k l = refl
 same-reading (suc a) (suc b) most room (Entries.going ws rs m) h k l =
     same-reading a b (length ws) room (nextEntry room ws rs m) (fewer-next room ws rs m) (omega arith) (omega arith)
 
-pub entries-all-read : (s : Setup) (room : ℕ) (ws : List ℕ) (bound : ℕ) → length ws < bound
+entries-all-read : (s : Setup) (room : ℕ) (ws : List ℕ) (bound : ℕ) → length ws < bound
     → readEntries bound room (Entries.going ws [] (begin s)) ≡ entriesOf s room ws
 entries-all-read s room ws bound h = same-reading bound _ (length ws + 1) room (Entries.going ws [] (begin s)) (omega arith) (omega arith) (omega arith)
 
 -- ---- the log, from its words
 
-pub log-length : (r : Reply) (rs : List Reply) → length (logWords (r ∷ rs)) ≡ length (logWords rs) + length (entryWords r)
+pub log-more : (r : Reply) (rs : List Reply) → length (logWords (r ∷ rs)) ≡ length (logWords rs) + length (entryWords r)
 unfolding logWords
-log-length r rs = simp length-append (omega arith)
+log-more r rs = simp length-append (omega arith)
 
 -- the newest entry stands last
 log-last : (r : Reply) (rs : List Reply) (rest : List ℕ) → logWords (r ∷ rs) ++ rest ≡ logWords rs ++ (entryWords r ++ rest)
@@ -102,10 +97,10 @@ module _ (s : Setup) (room : ℕ) where
   unfolding logWords run readEntries
   log-read [] left rest d h = rw zero-add
   log-read (r ∷ rs) left rest d h =
-      let fits : length (logWords rs) + length (entryWords r) ≤ room = omega (arith, log-length r rs) in
+      let fits : length (logWords rs) + length (entryWords r) ≤ room = omega (arith, log-more r rs) in
       let more : suc (length rs) + left ≡ length rs + suc left = omega arith in
       rw (more, log-last r rs rest)
-      (log-read rs (suc left) (entryWords r ++ rest) (d .1) (omega (arith, log-length r rs)) ∙ ap (readEntries left room) (entry-read room rs (run s rs) rest r (d .0) fits))
+      (log-read rs (suc left) (entryWords r ++ rest) (d .1) (omega (arith, log-more r rs)) ∙ ap (readEntries left room) (entry-read room rs (run s rs) rest r (d .0) fits))
 
   read-kept : (left : ℕ) (rs : List Reply) → readEntries left room (Entries.kept rs) ≡ Entries.kept rs
   unfolding readEntries
@@ -186,7 +181,7 @@ module _ (s : Setup) (room : ℕ) (all : List ℕ) where
         record {
           due = (ap (λ (n : Machine). checkDue n r) (sym e) ∙ due, h .due);
           spelled = log-last r rs _ ∙ ap (λ (l : List ℕ). logWords rs ++ l) spelled ∙ h .spelled;
-          fits = omega (arith, ltb-false room (length (logWords rs) + length (entryWords r)) f, log-length r rs);
+          fits = omega (arith, ltb-false room (length (logWords rs) + length (entryWords r)) f, log-more r rs);
         },
         ap (λ (n : Machine). answer n r) e,
       )

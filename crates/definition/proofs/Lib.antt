@@ -15,7 +15,6 @@ pub mod Path
 pub mod Bytes
 pub mod Frames
 pub mod OneWord
-pub mod Setups
 pub mod Entries
 pub mod SetupWords
 pub mod SetupRead
@@ -29,7 +28,7 @@ pub mod Counts
 pub mod Bound
 pub mod Statuses
 pub mod Sizes
-pub mod Words
+pub mod Lengths
 pub mod Leads
 pub mod Own
 pub mod Trials

@@ -16,7 +16,7 @@ use Rattle.definition.specs.Number.{plus, times, min, zero64, one64, two
 use Rattle.definition.specs.Vector.{foldTo, dot}
 use Rattle.definition.specs.Problem.{Bounds}
 use Rattle.definition.specs.Search.{Search, searchTrials, Limit, distance, limitOf, firstSearch, withLimit, beginSearch, decreases, flat, onFace, accepts, narrows, lowAfter, highAfter, following, goesOn, afterTrial}
-use Rattle.definition.specs.Facts.{IfGiven}
+use Rattle.definition.specs.Values.{Given}
 use Rattle.definition.specs.Points.{EachFinite}
 use Rattle.definition.proofs.Order.{NotNan, le-of-under, le-refl, le-trans, le-of-not-lt, le-antisymm}
 use Rattle.definition.proofs.Sign.{unsigned, signed, unsigned-of-lt, signed-of-lt, times-sign}
@@ -79,7 +79,7 @@ pub record Running (r : Search) : Type 0 where
   pub alpha : Step (r .alpha)
   pub positive : T (lt zero64 (r .alpha))
   pub low : Step (r .low)
-  pub high : IfGiven Step (r .high)
+  pub high : Given Step (r .high)
   pub amax : Step (r .amax)
   pub slope : T (signed (r .slope0))
 
@@ -126,13 +126,13 @@ begun-running n b x g d r e =
 
 -- the trial after one that is not accepted
 module _ (r : Search) (f v slope : Float) (h : Running r) where
-  high-step : IfGiven Step (highAfter r f v slope)
-  high-step = by-test (IfGiven Step) (narrows r f v slope) (λ _. h .alpha) (λ _. h .high)
+  high-step : Given Step (highAfter r f v slope)
+  high-step = by-test (Given Step) (narrows r f v slope) (λ _. h .alpha) (λ _. h .high)
 
   low-step : Step (lowAfter r f v slope)
   low-step = step-cond (narrows r f v slope) (r .low) (r .alpha) (h .low) (h .alpha)
 
-  following-step : (low : Float) (high : Option Float) → Step low → IfGiven Step high → Step (following r low high)
+  following-step : (low : Float) (high : Option Float) → Step low → Given Step high → Step (following r low high)
   following-step low none p q = min-step (times (r .alpha) two64) (r .amax) (twice-unsigned (r .alpha) (h .alpha)) (h .amax)
   following-step low (some high) p q = half-step (plus low high) (sum-step low high p q)
 
