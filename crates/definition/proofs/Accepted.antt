@@ -69,10 +69,16 @@ finite-or v t r e = go (finite v) (test-failed (not (finite v) || t) r e)
     go true e = refl
     go false e = sym e
 
+abbrev pub Finite : Float → Type 0
+Finite x = finite x ≡ true
+
+abbrev pub Plain : Float → Type 0
+Plain x = isNan x ≡ false
+
 -- a side of the box: one bound for each coordinate, none of them NaN
 pub record OneSide (n : ℕ) (side : List Float) : Type 0 where
   pub size : length side ≡ n
-  pub plain : Each (λ x. isNan x ≡ false) side
+  pub plain : Each Plain side
 
 side-passed : (n : ℕ) (side : List Float) → checkSide n side ≡ none → OneSide n side
 side-passed n side e =
@@ -80,7 +86,7 @@ side-passed n side e =
     let size = eqb-true (length side) n (not-false (eqb (length side) n) (test-failed (not (eqb (length side) n)) _ (p .0))) in
     record {
       size = size;
-      plain = each-of (λ x. isNan x ≡ false) side nan
+      plain = each-of Plain side nan
           (λ i h. test-failed (isNan (word side i)) _ (each-passed n (λ i. when (isNan (word side i)) (refuse 4 i 0)) (p .1) i (omega arith)));
     }
 
@@ -91,9 +97,6 @@ pub record Sides (n : ℕ) (b : Bounds) : Type 0 where
   pub ordered : (i : ℕ) → i < n → Ieee.lt (word (b .upper) i) (word (b .lower) i) ≡ false
 
 -- ---- an accepted setup
-
-abbrev pub Finite : Float → Type 0
-Finite x = finite x ≡ true
 
 abbrev pub Count : ℕ → ℕ → Type 0
 Count limit k = (1 ≤ k) × (k ≤ limit)

@@ -16,6 +16,7 @@ use Rattle.definition.specs.Machine.{Reply, Machine, checkDue}
 use Rattle.definition.specs.Driver.{answer, begin, run}
 use Rattle.definition.specs.Log.{entryWords, logWords, valueEntry, gradientEntry, entryOf, Entries, admitDue, admit, nextEntry, readEntries, entriesOf}
 use Rattle.definition.specs.Replies.{Due}
+use Rattle.definition.proofs.Tests.{by-test}
 use Rattle.definition.proofs.Accepted.{due-length}
 
 -- ---- one entry, from its words
@@ -122,10 +123,6 @@ abbrev Spells : ℕ → List ℕ → Option Reply → Type 0
 Spells k ws none = Unit {0}
 Spells k ws (some r) = entryWords r ++ drop (length (entryWords r) - 1) ws ≡ k ∷ ws
 
-spells-cond : (k : ℕ) (ws : List ℕ) (t : Bool) (a b : Option Reply) → (t ≡ true → Spells k ws a) → Spells k ws b → Spells k ws (cond t a b)
-spells-cond k ws true a b f h = f refl
-spells-cond k ws false a b f h = h
-
 spells-value : (k : ℕ) (ws : List ℕ) → 1 ≡ k → Spells k ws (valueEntry ws)
 spells-value k [] e = tt
 spells-value k (v ∷ ws) e = ap (λ (j : ℕ). j ∷ v ∷ ws) e
@@ -141,12 +138,12 @@ spells-gradient n k ws e = go (ltb (length ws) n) refl
 
 spells-entry : (n k : ℕ) (ws : List ℕ) → Spells k ws (entryOf n k ws)
 spells-entry n k ws =
-    spells-cond k ws (eqb k 1) (valueEntry ws) _ (λ e. spells-value k ws (kind 1 e))
-    (spells-cond k ws (eqb k 2) (gradientEntry n ws) _ (λ e. spells-gradient n k ws (kind 2 e))
-    (spells-cond k ws (eqb k 3) (some Reply.notSupplied) _ (bare 3)
-    (spells-cond k ws (eqb k 4) (some Reply.goOn) _ (bare 4)
-    (spells-cond k ws (eqb k 5) (some Reply.stop) _ (bare 5)
-    (spells-cond k ws (eqb k 6) (some Reply.failure) none (bare 6) tt)))))
+    by-test (Spells k ws) (eqb k 1) (λ e. spells-value k ws (kind 1 e)) (λ _.
+    by-test (Spells k ws) (eqb k 2) (λ e. spells-gradient n k ws (kind 2 e)) (λ _.
+    by-test (Spells k ws) (eqb k 3) (bare 3) (λ _.
+    by-test (Spells k ws) (eqb k 4) (bare 4) (λ _.
+    by-test (Spells k ws) (eqb k 5) (bare 5) (λ _.
+    by-test (Spells k ws) (eqb k 6) (bare 6) (λ _. tt))))))
   where
     kind : (j : ℕ) → eqb k j ≡ true → j ≡ k
     kind j e = sym (eqb-true k j e)

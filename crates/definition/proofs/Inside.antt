@@ -17,22 +17,21 @@ use Rattle.definition.specs.Search.{trialPoint}
 use Rattle.definition.specs.Machine.{Side, probePoint}
 use Rattle.definition.specs.Replies.{Accepted}
 use Rattle.definition.specs.Values.{Given}
-use Rattle.definition.specs.Points.{Within, InBox, EachFinite, Ordered, asks, beyond, ProbeOf}
-use Rattle.definition.proofs.Accepted.{OneSide, Sides, Finite, accepted-passed}
+use Rattle.definition.specs.Points.{Within, InBox, EachFinite, BoundsOrdered, asks, beyond, ProbeOf}
+use Rattle.definition.proofs.Accepted.{Finite, Plain, OneSide, Sides, accepted-passed}
 use Rattle.definition.proofs.Lists.{each-at}
 use Rattle.definition.proofs.Order.{NotNan, le-refl, le-trans, le-of-lt, le-of-not-lt, le-left-not-nan, le-right-not-nan, clamp-within}
 use Rattle.definition.proofs.Finite.{finite-not-nan, plus-not-nan, times-not-nan}
 use Rattle.definition.proofs.Vectors.{getD-tab}
-use Rattle.definition.proofs.Trials.{both-hold, holds}
-use Rattle.definition.proofs.Turns.{by-test}
+use Rattle.definition.proofs.Tests.{by-test, holds, both-hold}
 
 -- ---- the bounds and the start of an accepted setup
 
-not-nan : (x : Float) → isNan x ≡ false → NotNan x
+not-nan : (x : Float) → Plain x → NotNan x
 not-nan x e = rw e tt
 
 side-not-nan : (n : ℕ) (side : List Float) → OneSide n side → (i : ℕ) → i < n → NotNan (word side i)
-side-not-nan n side h i l = not-nan (word side i) (each-at (λ x. isNan x ≡ false) side i nan (h .plain) (omega (arith, h .size)))
+side-not-nan n side h i l = not-nan (word side i) (each-at Plain side i nan (h .plain) (omega (arith, h .size)))
 
 bounds-ordered : (n : ℕ) (o : Option Bounds) → Given (Sides n) o → (i : ℕ) → i < n
     → T (le (word (orElse o (openBounds n) .lower) i) (word (orElse o (openBounds n) .upper) i))
@@ -41,7 +40,7 @@ bounds-ordered n none h i l = rw (getD-tab n (λ j. negInfinity) i, getD-tab n (
 bounds-ordered n (some b) h i l =
     le-of-not-lt (word (b .upper) i) (word (b .lower) i) (side-not-nan n (b .upper) (h .upper) i l) (side-not-nan n (b .lower) (h .lower) i l) (h .ordered i l)
 
-pub accepted-ordered : (s : Setup) → Accepted s → Ordered (termsOf s)
+pub accepted-ordered : (s : Setup) → Accepted s → BoundsOrdered (termsOf s)
 accepted-ordered s a = bounds-ordered (dimension s) (s .bounds) (accepted-passed s a .bounds)
 
 x0-finite : (s : Setup) → Accepted s → EachFinite (dimension s) (s .x0)
@@ -49,7 +48,7 @@ x0-finite s a i l = holds (each-at Finite (s .x0) i nan (accepted-passed s a .x0
 
 -- ---- what is clamped
 
-tab-in-box : (t : Terms) (f : ℕ → Float) → Ordered t → ((i : ℕ) → i < t .n → NotNan (f i)) → InBox t (tab (t .n) (λ i. inBox (t .bounds) i (f i)))
+tab-in-box : (t : Terms) (f : ℕ → Float) → BoundsOrdered t → ((i : ℕ) → i < t .n → NotNan (f i)) → InBox t (tab (t .n) (λ i. inBox (t .bounds) i (f i)))
 tab-in-box t f o h i l =
     rw (getD-tab (t .n) (λ j. inBox (t .bounds) j (f j)) i)
     (clamp-within (f i) (word (t .bounds .lower) i) (word (t .bounds .upper) i) (h i l) (o i l))
@@ -58,7 +57,7 @@ pub start-in-box : (s : Setup) → Accepted s → InBox (termsOf s) (projectedSt
 unfolding projectedStart
 start-in-box s a = tab-in-box (termsOf s) (word (s .x0)) (accepted-ordered s a) (λ i l. finite-not-nan (word (s .x0) i) (x0-finite s a i l))
 
-pub line-in-box : (t : Terms) (x d : List Float) (alpha : Float) → Ordered t → EachFinite (t .n) x → EachFinite (t .n) d → T (finite alpha)
+pub line-in-box : (t : Terms) (x d : List Float) (alpha : Float) → BoundsOrdered t → EachFinite (t .n) x → EachFinite (t .n) d → T (finite alpha)
     → InBox t (trialPoint (t .n) (t .bounds) x d alpha)
 unfolding trialPoint
 line-in-box t x d alpha o p q a =

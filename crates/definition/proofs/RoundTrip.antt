@@ -1,6 +1,6 @@
 -- A record reads back to the setup and replies that were saved, behind any bytes; what is accepted is sound, and saved again it is the
 -- same record; and a record with one word before its trailer changed is refused. Assumes nothing.
-use Prim.Native.Nat.{ℕ, _+_, _*_, _≤_, _<_}
+use Prim.Native.Nat.{ℕ, _+_, _≤_, _<_}
 use native.Mathlib.Omega.{arith}
 use mathlib.Core.Path.{_≡_, refl, sym, ap, ap₂, _∙_, subst}
 use mathlib.Core.Logic.{_≢_}

@@ -18,8 +18,8 @@ use Rattle.definition.specs.Record.{absent, optionalFloat, boxFlag, sche
 use Rattle.definition.specs.Replies.{Accepted}
 use Rattle.definition.specs.Values.{Each, Given, Words, Binary64, BoxFloats, SetupFloats}
 use Rattle.definition.proofs.Lists.{each-at, each-so, each-take, each-drop}
-use Rattle.definition.proofs.Accepted.{Sides, Finite, accepted-passed}
-use Rattle.definition.proofs.SetupWords.{Plain, finite-plain, word-back}
+use Rattle.definition.proofs.Accepted.{Finite, Plain, Sides, accepted-passed}
+use Rattle.definition.proofs.SetupWords.{finite-plain, word-back}
 
 -- ---- floats of binary64
 

@@ -2,34 +2,30 @@
 use Prim.Native.Nat.{ℕ, _+_, _*_, _/_, _%_, _≤_, _<_}
 use native.Mathlib.Omega.{arith}
 use mathlib.Core.Path.{_≡_, refl, sym, ap, ap₂, _∙_, subst}
-use mathlib.Core.Bool.{Bool, true, false, not, cond, false≢true}
+use mathlib.Core.Bool.{Bool, not, false≢true}
 use mathlib.Core.List.{List, [], _∷_, _++_, map, append-assoc}
 use mathlib.Core.Option.{Option, none, some}
 use lib.Dec.{T}
 use lib.ListN.{length, take, length-append, length-map}
 use lib.Seq.{take-at, drop-at}
 use lib.Ieee.{Float, binary64, isNan, ofBits}
-use lib.Ieee.Bits.{ofBits-toBits, toBits-ofBits, toBits-lt}
+use lib.Ieee.Bits.{is-false, ofBits-toBits, toBits-ofBits, toBits-lt}
 use lib.Ieee.Scale.{finite}
 use borrow.Author.Tests.{ne-eqb}
 use Rattle.definition.specs.Number.{toFloat, toWord}
 use Rattle.definition.specs.Problem.{Setup, Bounds, Scheme, mostBudget, mostPairs, dimension, orElse}
-use Rattle.definition.specs.Record.{absent, optionalFloat, boxFlag, schemeFlag, boundWords, shapeWord, setupWords, floatGiven, countGiven, nIn, maxcorIn, hasBox, setupLength, floatsAt, boundsIn, schemeIn, setupIn, wordSize}
+use Rattle.definition.specs.Record.{absent, optionalFloat, boxFlag, schemeFlag, boundWords, shapeWord, setupWords, floatGiven, countGiven, nIn, maxcorIn, setupLength, floatsAt, boundsIn, schemeIn, setupIn, wordSize}
 use Rattle.definition.specs.Replies.{Accepted}
 use Rattle.definition.specs.Values.{Each, Given, Words, Binary64, BoxFloats, SetupFloats}
+use Rattle.definition.proofs.Tests.{holds}
+use Rattle.definition.proofs.Finite.{finite-not-nan}
 use Rattle.definition.proofs.Lists.{each-join, each-map}
-use Rattle.definition.proofs.Accepted.{Sides, Finite, Count, Passed, accepted-passed}
+use Rattle.definition.proofs.Accepted.{Finite, Plain, Sides, Count, Passed, accepted-passed}
 
 -- ---- floats
 
-abbrev pub Plain : Float → Type 0
-Plain x = isNan x ≡ false
-
 pub finite-plain : (x : Float) → Finite x → Plain x
-unfolding isNan
-finite-plain lib.Ieee.nan h = sym h
-finite-plain (lib.Ieee.inf s) h = refl
-finite-plain (lib.Ieee.fin s m e) h = refl
+finite-plain x h = is-false (isNan x) (finite-not-nan x (holds h))
 
 pub word-back : (w : ℕ) → w < wordSize → Plain (toFloat w) → toWord (toFloat w) ≡ w
 word-back w h p = toBits-ofBits binary64 w h (subst (λ (t : Bool). T (not t)) (sym p) tt)

@@ -1,12 +1,12 @@
 -- Sizes: every vector of the machine has n words at all times, there are at most maxcor pairs, and a search has at most 60 trials. Assumes nothing.
-use Prim.Native.Nat.{ℕ, zero, suc, _+_, _≤_}
+use Prim.Native.Nat.{ℕ, _+_, _≤_}
 use native.Mathlib.Omega.{arith}
 use mathlib.Core.Path.{_≡_, refl, sym, ap, _∙_, subst}
 use mathlib.Core.Bool.{Bool, true, false, not, _&&_, _||_, false≢true}
-use mathlib.Core.List.{List, [], _∷_, _++_, map}
+use mathlib.Core.List.{List, [], _∷_, map}
 use mathlib.Core.Option.{Option, none, some}
 use lib.Dec.{eqb, lit≤}
-use lib.ListN.{length, drop, set, length-append, length-drop, length-set, length-map}
+use lib.ListN.{length, set, length-append, length-drop, length-set, length-map}
 use lib.Ieee as Ieee
 use lib.Ieee.{Float}
 use lib.Ieee.Scale.{finite}
@@ -25,7 +25,8 @@ use Rattle.definition.specs.Facts.{StateSized, PairSized, PairsSized, Si
 use Rattle.definition.proofs.Accepted.{accepted-in-limits, due-length}
 use Rattle.definition.proofs.Lists.{each-join, each-drop}
 use Rattle.definition.proofs.Vectors.{length-tab}
-use Rattle.definition.proofs.Turns.{Turn, turn, by-test, gathered, aiming, Descends, descend-leads, Gathers, complete-leads, from-leads, probed-leads}
+use Rattle.definition.proofs.Tests.{by-test}
+use Rattle.definition.proofs.Turns.{Turn, turn, gathered, aiming, Descends, descend-leads, Gathers, complete-leads, from-leads, probed-leads}
 use Rattle.definition.proofs.Counts.{terms-stay}
 
 -- ---- the trials of a search
