@@ -114,11 +114,8 @@ plus-right-not-nan (fin s m e) (fin t n d) h = tt
 pub plus-monotone : (x y z w : Float) → T (le x y) → T (le z w) → NotNan (plus x z) → NotNan (plus y w) → T (le (plus x z) (plus y w))
 plus-monotone = add-monotone binary64
 
-pub plus-monotone-left : (x y z : Float) → T (le x y) → NotNan (plus x z) → NotNan (plus y z) → T (le (plus x z) (plus y z))
-plus-monotone-left x y z h p q = plus-monotone x y z z h (le-refl z (plus-right-not-nan x z p)) p q
-
 -- A sum that starts from -0 is that of its terms alone.
-pub plus-negZero : (x : Float) → T (fits binary64 x) → plus x negZero ≡ x
+plus-negZero : (x : Float) → T (fits binary64 x) → plus x negZero ≡ x
 plus-negZero = add-neutral binary64
 
 -- What is not above zero raises no finite float.

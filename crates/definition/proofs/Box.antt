@@ -14,14 +14,14 @@ use Rattle.definition.specs.Search.{Search}
 use Rattle.definition.specs.Machine.{Reply, Question, State, Place, Side, Phase, Machine, probePoint, questionIn, question}
 use Rattle.definition.specs.Driver.{run}
 use Rattle.definition.specs.Replies.{Accepted, Due}
-use Rattle.definition.specs.Facts.{IfGiven}
+use Rattle.definition.specs.Values.{Given}
 use Rattle.definition.specs.Points.{isTrial, searching, InBox, EachFinite, SearchRuns, ProbeOf}
 use Rattle.definition.proofs.Order.{le-right-not-nan}
 use Rattle.definition.proofs.Trials.{step-le-limit}
 use Rattle.definition.proofs.Inside.{probe-of, probe-in-box}
-use Rattle.definition.proofs.Sound.{Line, AtPlace, FactsIn, sound}
+use Rattle.definition.proofs.Questions.{Line, AtPlace, FactsIn, at-question}
 
-given-some : {A : Type 0} (P : A → Type 0) (o : Option A) {a : A} → IfGiven P o → o ≡ some a → P a
+given-some : {A : Type 0} (P : A → Type 0) (o : Option A) {a : A} → Given P o → o ≡ some a → P a
 given-some P o h e = rw e at h
 
 -- ---- in the machine's own terms
@@ -31,7 +31,7 @@ probe-in : (m : Machine) (w : Place) (i : ℕ) (side : Side) → InBox (m .terms
 probe-in m w i side t f = probe-of (m .terms) (m .trial .x) i side t (f .1) (f .2)
 
 asked-in : (m : Machine) (p : Phase) → InBox (m .terms) (m .held .x) → InBox (m .terms) (m .trial .x) → FactsIn m p
-    → IfGiven (λ (q : Question). InBox (m .terms) (q .point)) (questionIn m p)
+    → Given (λ (q : Question). InBox (m .terms) (q .point)) (questionIn m p)
 asked-in m (Phase.value w) h t f = t
 asked-in m (Phase.gradient w) h t f = t
 asked-in m (Phase.probe w i side) h t f = probe-in-box (m .terms) (m .trial .x) i side _ t (probe-in m w i side t f)
@@ -60,17 +60,17 @@ module _ (s : Setup) (rs : List Reply) (accepted : Accepted s) (due : Due s rs) 
   m = run s rs
 
   in-terms : (P : Terms → Type 0) → P (m .terms) → P (termsOf s)
-  in-terms P h = subst P (sound s accepted rs due .placed .terms) h
+  in-terms P h = subst P (at-question s accepted rs due .placed .terms) h
 
   pub held-in-box : InBox (termsOf s) (run s rs .held .x)
-  held-in-box = in-terms (λ (t : Terms). InBox t (m .held .x)) (sound s accepted rs due .placed .held)
+  held-in-box = in-terms (λ (t : Terms). InBox t (m .held .x)) (at-question s accepted rs due .placed .held)
 
   pub trial-in-box : InBox (termsOf s) (run s rs .trial .x)
-  trial-in-box = in-terms (λ (t : Terms). InBox t (m .trial .x)) (sound s accepted rs due .placed .trial)
+  trial-in-box = in-terms (λ (t : Terms). InBox t (m .trial .x)) (at-question s accepted rs due .placed .trial)
 
   pub asked-in-box : (q : Question) → question (run s rs) ≡ some q → InBox (termsOf s) (q .point)
   asked-in-box q e =
-      let h = sound s accepted rs due in
+      let h = at-question s accepted rs due in
       let found = asked-in m (m .phase) (h .placed .held) (h .placed .trial) (h .facts) in
       in-terms (λ (t : Terms). InBox t (q .point)) (given-some (λ (k : Question). InBox (m .terms) (k .point)) (question m) found e)
 
@@ -87,13 +87,13 @@ module _ (s : Setup) (rs : List Reply) (accepted : Accepted s) (due : Due s rs) 
       → ProbeOf (termsOf s) (run s rs .trial .x) i side (q .point)
   probe-finite w i side e q k =
       let P : Terms → Question → Type 0 = λ t z. ProbeOf t (m .trial .x) i side (z .point) in
-      let h = sound s accepted rs due in
+      let h = at-question s accepted rs due in
       let found = probe-in m w i side (h .placed .trial) (subst (FactsIn m) e (h .facts)) in
       in-terms (λ (t : Terms). P t q) (given-some (P (m .terms)) (questionIn m (Phase.probe w i side)) found (ap (questionIn m) (sym e) ∙ k))
 
   pub search-runs : searching (run s rs .phase) ≡ true → SearchRuns (dimension s) (run s rs)
   search-runs e =
-      let k = line-in m (m .phase) (sound s accepted rs due .facts) e in
+      let k = line-in m (m .phase) (at-question s accepted rs due .facts) e in
       let P : List Float → Terms → Type 0 = λ v t. EachFinite (t .n) v in
       record {
         point = in-terms (P (m .held .x)) (k .point);
@@ -105,4 +105,4 @@ module _ (s : Setup) (rs : List Reply) (accepted : Accepted s) (due : Due s rs) 
 
   pub notice-gradient-finite : run s rs .phase ≡ Phase.notice → EachFinite (dimension s) (run s rs .held .g)
   notice-gradient-finite e =
-      in-terms (λ (t : Terms). EachFinite (t .n) (m .held .g)) (subst (FactsIn m) e (sound s accepted rs due .facts) .gradient)
+      in-terms (λ (t : Terms). EachFinite (t .n) (m .held .g)) (subst (FactsIn m) e (at-question s accepted rs due .facts) .gradient)

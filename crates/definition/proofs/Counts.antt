@@ -256,7 +256,3 @@ module _ (s : Setup) (rs : List Reply) (accepted : Accepted s) (due : Due s rs) 
 
   pub nit-within-budget : run s rs .counters .nit ≤ limitsOf s .maxiter
   nit-within-budget = counted s rs accepted due .noticeBudget
-
-  -- while a value or a gradient is asked, an iteration is left
-  pub iteration-left : run s rs .counters .nit + openOf 1 (run s rs) + openOf 2 (run s rs) ≤ limitsOf s .maxiter
-  iteration-left = omega (arith, tally s rs accepted due .room, ap (λ (l : Limits). l .maxiter) (limits-stay s rs due))

@@ -3,11 +3,11 @@ use mathlib.Core.Path.{_≡_}
 use mathlib.Core.Bool.{true, false}
 use mathlib.Core.Logic.{_⊎_, inl, inr}
 use lib.Dec.{T}
-use lib.Ieee.{Float, nan, binary64, isNan, fits, lt, le, mul}
+use lib.Ieee.{Float, nan, binary64, isNan, fits, le, mul}
 use lib.Ieee.Scale.{finite}
-use Rattle.definition.specs.Number.{plus, times, zero64, c1}
+use Rattle.definition.specs.Number.{plus, times, c1}
 use Rattle.definition.proofs.Order.{le-right-not-nan, le-trans}
-use Rattle.definition.proofs.Sign.{unsigned, signed, unsigned-of-lt, signed-of-lt, signed-le-zero, round-sign, times-sign}
+use Rattle.definition.proofs.Sign.{unsigned, signed, signed-le-zero, round-sign, times-sign}
 use Rattle.definition.proofs.Addition.{plus-right-not-nan, plus-nonpositive-le}
 
 -- The share of the slope that the test allows is signed, or a NaN, with which no test passes.
@@ -28,7 +28,3 @@ trial-not-above w v alpha slope h k a s l = go (times (times c1 alpha) slope) (s
     go : (t : Float) → (t ≡ nan) ⊎ T (signed t) → T (le w (plus v t)) → T (le w v)
     go t (inl e) l = absurd (rw e at (plus-right-not-nan v t (le-right-not-nan w (plus v t) l)))
     go t (inr n) l = le-trans w (plus v t) v l (plus-nonpositive-le v t h k (signed-le-zero t n))
-
-pub positive-trial-not-above : (w v alpha slope : Float) → T (fits binary64 v) → T (finite v) → T (lt zero64 alpha) → T (lt slope zero64)
-    → T (le w (plus v (times (times c1 alpha) slope))) → T (le w v)
-positive-trial-not-above w v alpha slope h k a s = trial-not-above w v alpha slope h k (unsigned-of-lt alpha a) (signed-of-lt slope s)

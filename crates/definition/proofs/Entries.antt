@@ -4,26 +4,22 @@ use Prim.Native.Nat.{ℕ, zero, suc, _+_, _-_, _≤_, _<_}
 use native.Mathlib.Nat.{zero-add}
 use native.Mathlib.Omega.{arith}
 use mathlib.Core.Path.{_≡_, refl, sym, ap, ap₂, _∙_, subst}
-use mathlib.Core.Bool.{Bool, true, false, not, cond}
+use mathlib.Core.Bool.{Bool, true, false, cond}
 use mathlib.Core.List.{List, [], _∷_, _++_, append-assoc, append-nil}
 use mathlib.Core.Option.{Option, none, some}
 use lib.Dec.{eqb, ltb}
 use lib.ListN.{length, take, drop, length-append, length-drop, take-append-drop}
 use lib.Seq.{take-at, drop-at, length-take-le}
-use borrow.Author.Tests.{eqb-true, ltb-false, le-ltb, not-false}
-use Rattle.definition.specs.Problem.{Setup, Check, refuse, when}
-use Rattle.definition.specs.Machine.{Reply, Machine, takes, checkLength, checkDue}
+use borrow.Author.Tests.{eqb-true, ltb-false, le-ltb}
+use Rattle.definition.specs.Problem.{Setup, Check}
+use Rattle.definition.specs.Machine.{Reply, Machine, checkDue}
 use Rattle.definition.specs.Driver.{answer, begin, run}
 use Rattle.definition.specs.Log.{entryWords, logWords, valueEntry, gradientEntry, entryOf, Entries, admitDue, admit, nextEntry, readEntries, entriesOf}
 use Rattle.definition.specs.Replies.{Due}
-use Rattle.definition.proofs.Setups.{both-passed, test-failed}
+use Rattle.definition.proofs.Tests.{by-test}
+use Rattle.definition.proofs.Accepted.{due-length}
 
 -- ---- one entry, from its words
-
-pub gradient-length : (m : Machine) (ws : List ℕ) → checkDue m (Reply.gradient ws) ≡ none → length ws ≡ m .terms .n
-gradient-length m ws e =
-    let p = both-passed (when (not (takes m (Reply.gradient ws))) (refuse 13 0 0)) (checkLength (m .terms .n) (Reply.gradient ws)) e in
-    eqb-true (length ws) (m .terms .n) (not-false (eqb (length ws) (m .terms .n)) (test-failed (not (eqb (length ws) (m .terms .n))) _ (p .1)))
 
 module _ (room : ℕ) (rs : List Reply) (m : Machine) (rest : List ℕ) where
   admitted : (r : Reply) (ws : List ℕ) → checkDue m r ≡ none → length (logWords rs) + length (entryWords r) ≤ room → drop (length (entryWords r) - 1) ws ≡ rest
@@ -34,7 +30,7 @@ module _ (room : ℕ) (rs : List Reply) (m : Machine) (rest : List ℕ) where
       → nextEntry room (entryWords r ++ rest) rs m ≡ Entries.going rest (r ∷ rs) (answer m r)
   entry-read (Reply.value v) d f = admitted (Reply.value v) (v ∷ rest) d f refl
   entry-read (Reply.gradient ws) d f =
-      let e = gradient-length m ws d in
+      let e = due-length m ws d in
       let long : ltb (length (ws ++ rest)) (m .terms .n) ≡ false = le-ltb (length (ws ++ rest)) (m .terms .n) (omega (arith, length-append ws rest)) in
       rw (long, take-at ws rest (m .terms .n) e) (admitted (Reply.gradient ws) (ws ++ rest) d f (drop-at ws rest (suc (length ws) - 1) (omega arith)))
   entry-read Reply.notSupplied d f = admitted Reply.notSupplied rest d f refl
@@ -80,15 +76,15 @@ same-reading (suc a) (suc b) most room (Entries.refusedAt c) h k l = refl
 same-reading (suc a) (suc b) most room (Entries.going ws rs m) h k l =
     same-reading a b (length ws) room (nextEntry room ws rs m) (fewer-next room ws rs m) (omega arith) (omega arith)
 
-pub entries-all-read : (s : Setup) (room : ℕ) (ws : List ℕ) (bound : ℕ) → length ws < bound
+entries-all-read : (s : Setup) (room : ℕ) (ws : List ℕ) (bound : ℕ) → length ws < bound
     → readEntries bound room (Entries.going ws [] (begin s)) ≡ entriesOf s room ws
 entries-all-read s room ws bound h = same-reading bound _ (length ws + 1) room (Entries.going ws [] (begin s)) (omega arith) (omega arith) (omega arith)
 
 -- ---- the log, from its words
 
-pub log-length : (r : Reply) (rs : List Reply) → length (logWords (r ∷ rs)) ≡ length (logWords rs) + length (entryWords r)
+pub log-more : (r : Reply) (rs : List Reply) → length (logWords (r ∷ rs)) ≡ length (logWords rs) + length (entryWords r)
 unfolding logWords
-log-length r rs = simp length-append (omega arith)
+log-more r rs = simp length-append (omega arith)
 
 -- the newest entry stands last
 log-last : (r : Reply) (rs : List Reply) (rest : List ℕ) → logWords (r ∷ rs) ++ rest ≡ logWords rs ++ (entryWords r ++ rest)
@@ -102,10 +98,10 @@ module _ (s : Setup) (room : ℕ) where
   unfolding logWords run readEntries
   log-read [] left rest d h = rw zero-add
   log-read (r ∷ rs) left rest d h =
-      let fits : length (logWords rs) + length (entryWords r) ≤ room = omega (arith, log-length r rs) in
+      let fits : length (logWords rs) + length (entryWords r) ≤ room = omega (arith, log-more r rs) in
       let more : suc (length rs) + left ≡ length rs + suc left = omega arith in
       rw (more, log-last r rs rest)
-      (log-read rs (suc left) (entryWords r ++ rest) (d .1) (omega (arith, log-length r rs)) ∙ ap (readEntries left room) (entry-read room rs (run s rs) rest r (d .0) fits))
+      (log-read rs (suc left) (entryWords r ++ rest) (d .1) (omega (arith, log-more r rs)) ∙ ap (readEntries left room) (entry-read room rs (run s rs) rest r (d .0) fits))
 
   read-kept : (left : ℕ) (rs : List Reply) → readEntries left room (Entries.kept rs) ≡ Entries.kept rs
   unfolding readEntries
@@ -127,10 +123,6 @@ abbrev Spells : ℕ → List ℕ → Option Reply → Type 0
 Spells k ws none = Unit {0}
 Spells k ws (some r) = entryWords r ++ drop (length (entryWords r) - 1) ws ≡ k ∷ ws
 
-spells-cond : (k : ℕ) (ws : List ℕ) (t : Bool) (a b : Option Reply) → (t ≡ true → Spells k ws a) → Spells k ws b → Spells k ws (cond t a b)
-spells-cond k ws true a b f h = f refl
-spells-cond k ws false a b f h = h
-
 spells-value : (k : ℕ) (ws : List ℕ) → 1 ≡ k → Spells k ws (valueEntry ws)
 spells-value k [] e = tt
 spells-value k (v ∷ ws) e = ap (λ (j : ℕ). j ∷ v ∷ ws) e
@@ -146,12 +138,12 @@ spells-gradient n k ws e = go (ltb (length ws) n) refl
 
 spells-entry : (n k : ℕ) (ws : List ℕ) → Spells k ws (entryOf n k ws)
 spells-entry n k ws =
-    spells-cond k ws (eqb k 1) (valueEntry ws) _ (λ e. spells-value k ws (kind 1 e))
-    (spells-cond k ws (eqb k 2) (gradientEntry n ws) _ (λ e. spells-gradient n k ws (kind 2 e))
-    (spells-cond k ws (eqb k 3) (some Reply.notSupplied) _ (bare 3)
-    (spells-cond k ws (eqb k 4) (some Reply.goOn) _ (bare 4)
-    (spells-cond k ws (eqb k 5) (some Reply.stop) _ (bare 5)
-    (spells-cond k ws (eqb k 6) (some Reply.failure) none (bare 6) tt)))))
+    by-test (Spells k ws) (eqb k 1) (λ e. spells-value k ws (kind 1 e)) (λ _.
+    by-test (Spells k ws) (eqb k 2) (λ e. spells-gradient n k ws (kind 2 e)) (λ _.
+    by-test (Spells k ws) (eqb k 3) (bare 3) (λ _.
+    by-test (Spells k ws) (eqb k 4) (bare 4) (λ _.
+    by-test (Spells k ws) (eqb k 5) (bare 5) (λ _.
+    by-test (Spells k ws) (eqb k 6) (bare 6) (λ _. tt))))))
   where
     kind : (j : ℕ) → eqb k j ≡ true → j ≡ k
     kind j e = sym (eqb-true k j e)
@@ -186,7 +178,7 @@ module _ (s : Setup) (room : ℕ) (all : List ℕ) where
         record {
           due = (ap (λ (n : Machine). checkDue n r) (sym e) ∙ due, h .due);
           spelled = log-last r rs _ ∙ ap (λ (l : List ℕ). logWords rs ++ l) spelled ∙ h .spelled;
-          fits = omega (arith, ltb-false room (length (logWords rs) + length (entryWords r)) f, log-length r rs);
+          fits = omega (arith, ltb-false room (length (logWords rs) + length (entryWords r)) f, log-more r rs);
         },
         ap (λ (n : Machine). answer n r) e,
       )

@@ -21,7 +21,7 @@ either-way : (b : Bool) (x y : Float) → (T (finite x) → ⊥) → (T (finite 
 either-way true x y f g h = f h
 either-way false x y f g h = g h
 
-pub plus-terms-finite : (x y : Float) → T (finite (plus x y)) → T (finite x) × T (finite y)
+plus-terms-finite : (x y : Float) → T (finite (plus x y)) → T (finite x) × T (finite y)
 unfolding Ieee.add
 plus-terms-finite nan y h = absurd h
 plus-terms-finite (inf s) nan h = absurd h
@@ -41,7 +41,7 @@ pub minus-terms-finite : (x y : Float) → T (finite (minus x y)) → T (finite 
 unfolding Ieee.sub
 minus-terms-finite x y h = let k = plus-terms-finite x (neg y) h in (k .0, neg-finite y (k .1))
 
-pub times-factors-finite : (x y : Float) → T (finite (times x y)) → T (finite x) × T (finite y)
+times-factors-finite : (x y : Float) → T (finite (times x y)) → T (finite x) × T (finite y)
 unfolding Ieee.mul
 times-factors-finite nan y h = absurd h
 times-factors-finite (inf s) nan h = absurd h
@@ -59,7 +59,7 @@ sum-terms-finite n f h i l = foldTo-each (λ (s : Float). T (finite s)) (λ (j :
 pub sum-not-finite : (n : ℕ) (f : ℕ → Float) (i : ℕ) → i < n → finite (f i) ≡ false → finite (sum n f) ≡ false
 sum-not-finite n f i l e = is-false (finite (sum n f)) (not-T (finite (sum n f)) (λ h. subst T e (sum-terms-finite n f h i l)))
 
-pub dot-products-finite : (n : ℕ) (a b : List Float) → T (finite (dot n a b)) → (i : ℕ) → i < n → T (finite (times (word a i) (word b i)))
+dot-products-finite : (n : ℕ) (a b : List Float) → T (finite (dot n a b)) → (i : ℕ) → i < n → T (finite (times (word a i) (word b i)))
 dot-products-finite n a b h i l = sum-terms-finite n (λ j. times (word a j) (word b j)) h i l
 
 pub dot-factors-finite : (n : ℕ) (a b : List Float) → T (finite (dot n a b)) → (i : ℕ) → i < n → T (finite (word a i)) × T (finite (word b i))

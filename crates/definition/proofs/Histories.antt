@@ -1,5 +1,5 @@
 -- Every list of calls: the fit in the history is sound, a refused call leaves the history, and a fit saved is restored. Assumes nothing.
-use Prim.Native.Nat.{ℕ, zero, suc, _+_, _*_, _≤_, _<_}
+use Prim.Native.Nat.{ℕ, zero, suc, _+_, _≤_}
 use native.Mathlib.Omega.{arith}
 use mathlib.Core.Path.{_≡_, refl, sym, ap, _∙_, subst}
 use mathlib.Core.Bool.{cond}
@@ -12,14 +12,14 @@ use Rattle.definition.specs.Problem.{Setup, Refusal, Check, refuse, when
 use Rattle.definition.specs.Machine.{Reply, checkDue}
 use Rattle.definition.specs.Driver.{run}
 use Rattle.definition.specs.Log.{entryWords, logWords}
-use Rattle.definition.specs.Record.{Lengths, Reading, wordSize, checkArea, readRecord, recordWords, recordBytes}
+use Rattle.definition.specs.Record.{Lengths, Reading, checkArea, readRecord, recordBytes}
 use Rattle.definition.specs.Replies.{Due}
-use Rattle.definition.specs.History.{Call, Answer, History, logShort, outputShort, checkReply, refusal, left, accepted, restored, restoredAnswer, leftUnless, answerUnless, historyStep, historyAnswer, historyAfter}
+use Rattle.definition.specs.History.{Call, Answer, History, checkReply, refusal, left, accepted, restored, restoredAnswer, leftUnless, answerUnless, historyStep, historyAnswer, historyAfter}
 use Rattle.definition.specs.Values.{Each, SetupFloats, ReplyWords, Brings}
 use Rattle.definition.specs.Sound.{Sound, atEntry, refusedAtEntry}
 use Rattle.definition.proofs.Lists.{each-drop, each-of}
-use Rattle.definition.proofs.Setups.{both-passed, test-failed}
-use Rattle.definition.proofs.Entries.{log-length}
+use Rattle.definition.proofs.Accepted.{both-passed, test-failed}
+use Rattle.definition.proofs.Entries.{log-more}
 use Rattle.definition.proofs.RoundTrip.{saved-reads-back, accepted-sound, accepted-floats, accepted-words}
 
 -- ---- what holds of the fit in the history after every list of calls
@@ -74,13 +74,13 @@ due-struck s (suc j) (r ∷ rs) d = due-struck s j rs (d .1)
 pub log-struck : (j : ℕ) (rs : List Reply) → length (logWords (drop j rs)) ≤ length (logWords rs)
 log-struck zero rs = omega arith
 log-struck (suc j) [] = omega arith
-log-struck (suc j) (r ∷ rs) = omega (arith, log-struck j rs, log-length r rs)
+log-struck (suc j) (r ∷ rs) = omega (arith, log-struck j rs, log-more r rs)
 
 pub reply-fits : (z : Lengths) (s : Setup) (rs : List Reply) (r : Reply) → checkReply z s rs r ≡ none → (checkDue (run s rs) r ≡ none) × (length (logWords (r ∷ rs)) ≤ z .log)
 reply-fits z s rs r e =
     let p = both-passed (checkDue (run s rs) r) (when (ltb (z .log) (length (logWords rs) + length (entryWords r))) (refuse 12 0 0)) e in
     let fits = ltb-false (z .log) _ (test-failed (ltb (z .log) (length (logWords rs) + length (entryWords r))) _ (p .1)) in
-    (p .0, omega (arith, fits, log-length r rs))
+    (p .0, omega (arith, fits, log-more r rs))
 
 sound-kept : (z : Lengths) → Kept z (λ c. Unit {0}) (Sound z)
 unfolding logWords
@@ -146,28 +146,25 @@ unfolding historyAfter
 after-append z h [] ds = refl
 after-append z h (c ∷ cs) ds = after-append z (historyStep z h c) cs ds
 
-save-accepted : (z : Lengths) (s : Setup) (rs : List Reply) (room : ℕ) (bs : List ℕ) → historyAnswer z (History.fit s rs) (Call.save room) ≡ Answer.saved bs
-    → (bs ≡ recordBytes s rs) × (8 * length (recordWords s rs) ≤ room)
-save-accepted z s rs room bs e = go (logShort z rs then outputShort room (8 * length (recordWords s rs))) refl e
+save-accepted : (z : Lengths) (s : Setup) (rs : List Reply) (room : ℕ) (bs : List ℕ) → historyAnswer z (History.fit s rs) (Call.save room) ≡ Answer.saved bs → bs ≡ recordBytes s rs
+save-accepted z s rs room bs e = go (refusal z (History.fit s rs) (Call.save room)) e
   where
-    go : (o : Check) → (logShort z rs then outputShort room (8 * length (recordWords s rs))) ≡ o → answerUnless o (History.fit s rs) (Call.save room) ≡ Answer.saved bs
-        → (bs ≡ recordBytes s rs) × (8 * length (recordWords s rs) ≤ room)
-    go none f e = (cc, ltb-false room _ (test-failed (ltb room (8 * length (recordWords s rs))) _ (both-passed (logShort z rs) (outputShort room (8 * length (recordWords s rs))) f .1)))
-    go (some r) f e = let z : _≡_ {A = ℕ} 0 1 = cc in absurd (omega arith)
+    go : (o : Check) → answerUnless o (History.fit s rs) (Call.save room) ≡ Answer.saved bs → bs ≡ recordBytes s rs
+    go none e = cc
+    go (some r) e = let z : _≡_ {A = ℕ} 0 1 = cc in absurd (omega arith)
 
 -- what a fit saved after any calls, behind any bytes, is restored to where area and log are long enough, whatever was there
 module _ (z : Lengths) (cs : List Call) (s : Setup) (rs : List Reply) (room : ℕ) (bs : List ℕ)
-    (brings : Each Brings cs) (held : historyAfter z History.empty cs ≡ History.fit s rs) (small : room < wordSize)
+    (brings : Each Brings cs) (held : historyAfter z History.empty cs ≡ History.fit s rs)
     (saved : historyAnswer z (History.fit s rs) (Call.save room) ≡ Answer.saved bs) where
   pub restored-elsewhere : (there : Lengths) (other : History) (ahead : List ℕ) → areaNeeded s ≤ there .area → length (logWords rs) ≤ there .log
       → historyStep there other (Call.restore (ahead ++ bs)) ≡ History.fit s rs
   restored-elsewhere there other ahead area log =
-      let p = save-accepted z s rs room bs saved in
       let h = history-sound z cs s rs held in
       let v = history-values z cs s rs brings held in
       let sound : Sound there s rs = record { accepted = h .accepted; due = h .due; area = area; log = log } in
-      ap (λ (x : List ℕ). restored other (readRecord there (ahead ++ x))) (p .0)
-      ∙ ap (restored other) (saved-reads-back there ahead s rs sound (v .0) (v .1) (omega (arith, p .1)))
+      ap (λ (x : List ℕ). restored other (readRecord there (ahead ++ x))) (save-accepted z s rs room bs saved)
+      ∙ ap (restored other) (saved-reads-back there ahead s rs sound (v .0) (v .1))
 
   -- in its place: so question, report, log and every further answer are the same
   pub saved-restored : historyAfter z History.empty (cs ++ (Call.save room ∷ Call.restore bs ∷ [])) ≡ historyAfter z History.empty cs

@@ -1,79 +1,54 @@
 -- Points within the box: the clipped start of an accepted setup, a trial along a finite direction, and what a probe moves. Assumes nothing.
 use Prim.Native.Nat.{ℕ, zero, suc, _<_}
+use native.Mathlib.Omega.{arith}
 use mathlib.Core.Path.{_≡_, refl, ap}
-use mathlib.Core.Bool.{Bool, true, false, not, cond, _&&_, false≢true}
+use mathlib.Core.Bool.{Bool, true, false, cond, _&&_, false≢true}
 use mathlib.Core.List.{List, [], _∷_}
 use mathlib.Core.Option.{Option, none, some}
-use lib.Dec.{T, eqb}
-use lib.ListN.{length, set}
-use lib.Ieee.{Float, isNan, lt, eq, le}
+use lib.Dec.{T}
+use lib.ListN.{set}
+use lib.Ieee.{Float, nan, isNan, lt, eq, le}
 use lib.Ieee.Scale.{finite}
-use borrow.Author.Tests.{not-false}
 use Rattle.definition.specs.Number.{plus, minus, times, min, max, nextUp, nextDown, infinity, negInfinity}
 use Rattle.definition.specs.Vector.{tab, word}
-use Rattle.definition.specs.Problem.{Setup, Scheme, Bounds, Terms, Check, refuse, when, _then_, eachIndex, given, checkSide, checkPair, checkBounds, checkProblem, validate, orElse, openBounds, termsOf, inBox, projectedStart, dimension}
+use Rattle.definition.specs.Problem.{Setup, Scheme, Bounds, Terms, orElse, openBounds, termsOf, inBox, projectedStart, dimension}
 use Rattle.definition.specs.Gradient.{Probes, probes, probesBetween, probesAt, differenceStep, plusPoint, minusPoint}
 use Rattle.definition.specs.Search.{trialPoint}
 use Rattle.definition.specs.Machine.{Side, probePoint}
 use Rattle.definition.specs.Replies.{Accepted}
-use Rattle.definition.specs.Points.{Within, InBox, EachFinite, Ordered, asks, beyond, ProbeOf}
-use Rattle.definition.proofs.Accepted.{first-passed, rest-passed, test-failed}
+use Rattle.definition.specs.Values.{Given}
+use Rattle.definition.specs.Points.{Within, InBox, EachFinite, BoundsOrdered, asks, beyond, ProbeOf}
+use Rattle.definition.proofs.Accepted.{Finite, Plain, OneSide, Sides, accepted-passed}
+use Rattle.definition.proofs.Lists.{each-at}
 use Rattle.definition.proofs.Order.{NotNan, le-refl, le-trans, le-of-lt, le-of-not-lt, le-left-not-nan, le-right-not-nan, clamp-within}
 use Rattle.definition.proofs.Finite.{finite-not-nan, plus-not-nan, times-not-nan}
-use Rattle.definition.proofs.Vectors.{foldTo-each, getD-tab}
-use Rattle.definition.proofs.Trials.{both-hold, holds}
-use Rattle.definition.proofs.Turns.{by-test}
+use Rattle.definition.proofs.Vectors.{getD-tab}
+use Rattle.definition.proofs.Tests.{by-test, holds, both-hold}
 
 -- ---- the bounds and the start of an accepted setup
 
-each-passed : (n : ℕ) (check : ℕ → Check) → eachIndex n check ≡ none → (i : ℕ) → i < n → check i ≡ none
-each-passed n check =
-    foldTo-each (λ (c : Check). c ≡ none) (λ (i : ℕ). check i ≡ none) (λ i c. c then check i) none
-    (λ i c e. (first-passed c (check i) e, rest-passed c (check i) e)) n
-
-not-nan : (x : Float) → isNan x ≡ false → NotNan x
+not-nan : (x : Float) → Plain x → NotNan x
 not-nan x e = rw e tt
 
-side-not-nan : (n : ℕ) (side : List Float) → checkSide n side ≡ none → (i : ℕ) → i < n → NotNan (word side i)
-side-not-nan n side e i l =
-    not-nan (word side i) (test-failed (isNan (word side i)) 4 i 0
-    (each-passed n (λ j. when (isNan (word side j)) (refuse 4 j 0)) (rest-passed (when (not (eqb (length side) n)) (refuse 3 n (length side))) _ e) i l))
+side-not-nan : (n : ℕ) (side : List Float) → OneSide n side → (i : ℕ) → i < n → NotNan (word side i)
+side-not-nan n side h i l = not-nan (word side i) (each-at Plain side i nan (h .plain) (omega (arith, h .size)))
 
-bounds-ordered : (n : ℕ) (o : Option Bounds) → given (checkBounds n) o ≡ none → (i : ℕ) → i < n
+bounds-ordered : (n : ℕ) (o : Option Bounds) → Given (Sides n) o → (i : ℕ) → i < n
     → T (le (word (orElse o (openBounds n) .lower) i) (word (orElse o (openBounds n) .upper) i))
 unfolding le
-bounds-ordered n none e i l = rw (getD-tab n (λ j. negInfinity) i, getD-tab n (λ j. infinity) i) tt
-bounds-ordered n (some b) e i l =
-    let sides = rest-passed (checkSide n (b .lower)) _ e in
-    let pair = each-passed n (checkPair b) (rest-passed (checkSide n (b .upper)) _ sides) i l in
-    let low = word (b .lower) i in
-    let high = word (b .upper) i in
-    le-of-not-lt high low
-    (side-not-nan n (b .upper) (first-passed (checkSide n (b .upper)) _ sides) i l)
-    (side-not-nan n (b .lower) (first-passed (checkSide n (b .lower)) _ e) i l)
-    (test-failed (lt high low) 5 i 0 (first-passed (when (lt high low) (refuse 5 i 0)) _ pair))
+bounds-ordered n none h i l = rw (getD-tab n (λ j. negInfinity) i, getD-tab n (λ j. infinity) i) tt
+bounds-ordered n (some b) h i l =
+    le-of-not-lt (word (b .upper) i) (word (b .lower) i) (side-not-nan n (b .upper) (h .upper) i l) (side-not-nan n (b .lower) (h .lower) i l) (h .ordered i l)
 
-pub accepted-ordered : (s : Setup) → Accepted s → Ordered (termsOf s)
-unfolding validate checkProblem
-accepted-ordered s a =
-    let n = length (s .x0) in
-    let problem = first-passed (checkProblem s) _ a in
-    let rest = rest-passed (when (eqb n 0) (refuse 1 0 0)) _ problem in
-    bounds-ordered n (s .bounds) (rest-passed (eachIndex n (λ i. when (not (finite (word (s .x0) i))) (refuse 2 i 0))) _ rest)
+pub accepted-ordered : (s : Setup) → Accepted s → BoundsOrdered (termsOf s)
+accepted-ordered s a = bounds-ordered (dimension s) (s .bounds) (accepted-passed s a .bounds)
 
 x0-finite : (s : Setup) → Accepted s → EachFinite (dimension s) (s .x0)
-unfolding validate checkProblem
-x0-finite s a i l =
-    let n = length (s .x0) in
-    let problem = first-passed (checkProblem s) _ a in
-    let rest = rest-passed (when (eqb n 0) (refuse 1 0 0)) _ problem in
-    let check : ℕ → Check = λ j. when (not (finite (word (s .x0) j))) (refuse 2 j 0) in
-    let fails = test-failed (not (finite (word (s .x0) i))) 2 i 0 (each-passed n check (first-passed (eachIndex n check) _ rest) i l) in
-    holds (not-false (finite (word (s .x0) i)) fails)
+x0-finite s a i l = holds (each-at Finite (s .x0) i nan (accepted-passed s a .x0) l)
 
 -- ---- what is clamped
 
-tab-in-box : (t : Terms) (f : ℕ → Float) → Ordered t → ((i : ℕ) → i < t .n → NotNan (f i)) → InBox t (tab (t .n) (λ i. inBox (t .bounds) i (f i)))
+tab-in-box : (t : Terms) (f : ℕ → Float) → BoundsOrdered t → ((i : ℕ) → i < t .n → NotNan (f i)) → InBox t (tab (t .n) (λ i. inBox (t .bounds) i (f i)))
 tab-in-box t f o h i l =
     rw (getD-tab (t .n) (λ j. inBox (t .bounds) j (f j)) i)
     (clamp-within (f i) (word (t .bounds .lower) i) (word (t .bounds .upper) i) (h i l) (o i l))
@@ -82,7 +57,7 @@ pub start-in-box : (s : Setup) → Accepted s → InBox (termsOf s) (projectedSt
 unfolding projectedStart
 start-in-box s a = tab-in-box (termsOf s) (word (s .x0)) (accepted-ordered s a) (λ i l. finite-not-nan (word (s .x0) i) (x0-finite s a i l))
 
-pub line-in-box : (t : Terms) (x d : List Float) (alpha : Float) → Ordered t → EachFinite (t .n) x → EachFinite (t .n) d → T (finite alpha)
+pub line-in-box : (t : Terms) (x d : List Float) (alpha : Float) → BoundsOrdered t → EachFinite (t .n) x → EachFinite (t .n) d → T (finite alpha)
     → InBox t (trialPoint (t .n) (t .bounds) x d alpha)
 unfolding trialPoint
 line-in-box t x d alpha o p q a =

@@ -20,9 +20,10 @@ use Rattle.definition.specs.Machine.{Reply, Place, Side, Phase, Machine,
 use Rattle.definition.specs.Driver.{Ends, chosenEnd, endsOf, gradientSmall, askValue, tryStep, trySearch, searchAlong, towards, byModel, withoutPairs, orWithoutPairs, descend, iterate, learn, move, judgeTrial, measured, complete, withGradient, withComponent, byProbes, probeFrom, probedTo, probed, valued, answer}
 use Rattle.definition.specs.Facts.{gradientFinite}
 use Rattle.definition.specs.Points.{asks}
-use Rattle.definition.proofs.Turns.{by-test, Turn, turn, asking, gathered, aiming}
+use Rattle.definition.proofs.Tests.{by-test}
+use Rattle.definition.proofs.Turns.{Turn, turn, asking, gathered, aiming}
 
-abbrev trialSlope : Machine → Float
+abbrev pub trialSlope : Machine → Float
 trialSlope m = dot (m .terms .n) (m .trial .g) (m .direction)
 
 -- G: while the gradient at a place is gathered; S: while a direction from the point held is sought; A: with the next trial set;

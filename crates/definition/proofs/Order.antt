@@ -113,7 +113,7 @@ nothing-above-infinity (inf true) h = absurd h
 nothing-above-infinity (inf false) h = refl
 nothing-above-infinity (fin s m e) h = absurd h
 
-pub nothing-below-negInfinity : (x : Float) → T (le x negInfinity) → x ≡ negInfinity
+nothing-below-negInfinity : (x : Float) → T (le x negInfinity) → x ≡ negInfinity
 unfolding le
 nothing-below-negInfinity nan h = absurd h
 nothing-below-negInfinity (inf true) h = refl

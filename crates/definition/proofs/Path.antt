@@ -18,6 +18,7 @@ use Rattle.definition.specs.Compact.{Compact, product}
 use Rattle.definition.specs.Geometry.{Break, noBreak, inserted, breakTime, breaksOf, Path, Segment, ended, onward, pointOnPath, travelled, stopped, stopAll, passed, along, bySlope, byProducts, still, segment, walk, pathStart, generalizedCauchy}
 use Rattle.definition.specs.Values.{Each}
 use Rattle.definition.specs.Paths.{firstSegment, segmentAfter}
+use Rattle.definition.proofs.Tests.{by-test, holds}
 use Rattle.definition.proofs.Lists.{each-at}
 
 -- ---- the break times are finite, and no more than the coordinates
@@ -29,19 +30,15 @@ record Breaks (n : ℕ) (bs : List Break) : Type 0 where
   finite : Each FiniteTime bs
   few : length bs ≤ n
 
-breaks-cond : (n : ℕ) (t : Bool) (a b : List Break) → (t ≡ true → Breaks n a) → Breaks n b → Breaks n (cond t a b)
-breaks-cond n true a b p q = p refl
-breaks-cond n false a b p q = q
-
 inserted-breaks : (n : ℕ) (b : Break) (cs : List Break) → FiniteTime b → Breaks n cs → Breaks (suc n) (inserted b cs)
 unfolding inserted
 inserted-breaks n b [] h k = record { finite = (h, tt); few = omega arith }
 inserted-breaks zero b (c ∷ cs) h k = absurd (omega (arith, k .few))
 inserted-breaks (suc n) b (c ∷ cs) h k =
     let behind = inserted-breaks n b cs h (record { finite = k .finite .1; few = omega (arith, k .few) }) in
-    breaks-cond (suc (suc n)) (totalLe (c .time) (b .time)) (c ∷ inserted b cs) (b ∷ c ∷ cs)
+    by-test (Breaks (suc (suc n))) (totalLe (c .time) (b .time))
     (λ e. record { finite = (k .finite .0, behind .finite); few = omega (arith, behind .few) })
-    (record { finite = (h, k .finite); few = omega (arith, k .few) })
+    (λ _. record { finite = (h, k .finite); few = omega (arith, k .few) })
 
 breaks-are : (k : ℕ) (b : Bounds) (x g : List Float) → Breaks k (breaksOf k b x g)
 unfolding breaksOf foldTo
@@ -50,9 +47,9 @@ breaks-are (suc k) b x g =
     let bs = breaksOf k b x g in
     let h = breaks-are k b x g in
     let t = breakTime b x g k in
-    breaks-cond (suc k) (finite t) (inserted (record { time = t; coordinate = k }) bs) bs
-    (λ e. inserted-breaks k (record { time = t; coordinate = k }) bs (subst T (sym e) tt) h)
-    (record { finite = h .finite; few = omega (arith, h .few) })
+    by-test (Breaks (suc k)) (finite t)
+    (λ e. inserted-breaks k (record { time = t; coordinate = k }) bs (holds e) h)
+    (λ _. record { finite = h .finite; few = omega (arith, h .few) })
 
 -- ---- floats
 
@@ -78,10 +75,6 @@ record Between (low high event : ℕ) : Type 0 where
   above : low ≤ event
   most : event ≤ high
 
-between-cond : (low high : ℕ) (t : Bool) (p q : Path) → Between low high (p .event) → Between low high (q .event) → Between low high (cond t p q .event)
-between-cond low high true p q h k = h
-between-cond low high false p q h k = k
-
 stop-event : (left : ℕ) (b : Bounds) (x : List Float) (bs : List Break) (t : Float) (p : Path)
     → Between (p .event) (p .event + left) (stopAll left b x bs t p .event)
 unfolding stopAll
@@ -89,9 +82,9 @@ stop-event zero b x bs t p = record { above = omega arith; most = omega arith }
 stop-event (suc left) b x bs t p =
     let next = stopped b x (getD bs (p .event) noBreak .coordinate) p in
     let h = stop-event left b x bs t next in
-    between-cond (p .event) (p .event + suc left) (eq (getD bs (p .event) noBreak .time) t) (stopAll left b x bs t next) p
-    (record { above = omega (arith, h .above); most = omega (arith, h .most) })
-    (record { above = omega arith; most = omega arith })
+    by-test (λ (q : Path). Between (p .event) (p .event + suc left) (q .event)) (eq (getD bs (p .event) noBreak .time) t)
+    (λ _. record { above = omega (arith, h .above); most = omega (arith, h .most) })
+    (λ _. record { above = omega arith; most = omega arith })
 
 stop-first : (left : ℕ) (b : Bounds) (x : List Float) (bs : List Break) (t : Float) (p : Path)
     → 0 < left → eq (getD bs (p .event) noBreak .time) t ≡ true → p .event < stopAll left b x bs t p .event
@@ -110,10 +103,6 @@ record Passed (low : ℕ) (bs : List Break) (p : Path) : Type 0 where
 abbrev Leads : ℕ → List Break → Segment → Type 0
 Leads low bs (ended r) = Unit {0}
 Leads low bs (onward p) = Passed low bs p
-
-leads-cond : (low : ℕ) (bs : List Break) (t : Bool) (a b : Segment) → Leads low bs a → Leads low bs b → Leads low bs (cond t a b)
-leads-cond low bs true a b h k = h
-leads-cond low bs false a b h k = k
 
 module _ (n : ℕ) (b : Bounds) (x : List Float) (bs : List Break) (f : Each FiniteTime bs) (p : Path) where
   passed-one : p .event < length bs → Passed (p .event) bs (passed n b x bs (getD bs (p .event) noBreak .time) p)
@@ -140,15 +129,13 @@ module _ (n : ℕ) (b : Bounds) (x : List Float) (bs : List Break) (f : Each Fin
       go true a false c false e =
           let none-left = List·getD-eq-default bs noBreak (ltb-false (p .event) (length bs) e) in
           let far = ap (λ (z : Break). lt least (minus (z .time) (p .previous))) none-left in
-          absurd (false≢true (sym c ∙ far ∙ below-open least (p .previous) (subst T (sym a) tt) k))
+          absurd (false≢true (sym c ∙ far ∙ below-open least (p .previous) (holds a) k))
 
   leads-slope : (slope curvature : Float) → T (finite (p .previous)) → Leads (p .event) bs (bySlope n b x bs p slope curvature)
   unfolding bySlope
   leads-slope slope curvature k =
-      let on = along n b x bs p (getD bs (p .event) noBreak .time) (over (neg slope) curvature) in
-      let point = ended (pointOnPath n b x p) in
-      leads-cond (p .event) bs (not (finite slope && finite curvature && lt zero64 curvature)) (ended none) (cond (le zero64 slope) point on) tt
-      (leads-cond (p .event) bs (le zero64 slope) point on tt (leads-along (over (neg slope) curvature) k))
+      by-test (Leads (p .event) bs) (not (finite slope && finite curvature && lt zero64 curvature)) (λ _. tt)
+      (λ _. by-test (Leads (p .event) bs) (le zero64 slope) (λ _. tt) (λ _. leads-along (over (neg slope) curvature) k))
 
   leads-products : (g : List Float) (bd bz : Option (List Float)) → T (finite (p .previous)) → Leads (p .event) bs (byProducts n b x g bs p bd bz)
   leads-products g none bz k = tt
@@ -158,9 +145,8 @@ module _ (n : ℕ) (b : Bounds) (x : List Float) (bs : List Break) (f : Each Fin
   leads-on : (c : Compact) (g : List Float) → T (finite (p .previous)) → Leads (p .event) bs (segment n b c x g bs p)
   unfolding segment
   leads-on c g k =
-      let on = byProducts n b x g bs p (product n c (p .direction)) (product n c (p .displacement)) in
-      leads-cond (p .event) bs (still n (p .direction)) (ended (pointOnPath n b x p)) on tt
-      (leads-products g (product n c (p .direction)) (product n c (p .displacement)) k)
+      by-test (Leads (p .event) bs) (still n (p .direction)) (λ _. tt)
+      (λ _. leads-products g (product n c (p .direction)) (product n c (p .displacement)) k)
 
 -- ---- so the path ends, and a walk that may go so far gives its end
 

@@ -1,6 +1,6 @@
 -- A record reads back to the setup and replies that were saved, behind any bytes; what is accepted is sound, and saved again it is the
 -- same record; and a record with one word before its trailer changed is refused. Assumes nothing.
-use Prim.Native.Nat.{ℕ, _+_, _*_, _≤_, _<_}
+use Prim.Native.Nat.{ℕ, _+_, _≤_, _<_}
 use native.Mathlib.Omega.{arith}
 use mathlib.Core.Path.{_≡_, refl, sym, ap, ap₂, _∙_, subst}
 use mathlib.Core.Logic.{_≢_}
@@ -15,16 +15,16 @@ use Rattle.definition.specs.Problem.{Setup, Check, refuse, when, _then_,
 use Rattle.definition.specs.Machine.{Reply}
 use Rattle.definition.specs.Log.{entryWords, logWords, Entries, entriesOf}
 use Rattle.definition.specs.Record.{Lengths, Reading, wordSize, setupWords, setupLength, setupIn, spareBits, sums, trailer, recordWords, recordBytes, bytes, plainRefusal, readingOf, checkArea, sameSums, malformed, checkWords, unlessRefused, readWords, readRecord}
-use Rattle.definition.specs.Replies.{Accepted}
+use Rattle.definition.specs.Replies.{Accepted, Due}
 use Rattle.definition.specs.Values.{Bytes, Words, SetupFloats, ReplyWords}
 use Rattle.definition.specs.Sound.{Sound}
 use Rattle.definition.proofs.Lists.{each-join, each-split}
-use Rattle.definition.proofs.Bytes.{bytes-length}
 use Rattle.definition.proofs.Frames.{trailing, read-framed, Framed, accepted-framed}
 use Rattle.definition.proofs.OneWord.{trailer-words, sums-agree, one-changed-word}
-use Rattle.definition.proofs.Setups.{both-passed, test-failed, accepted-passed}
+use Rattle.definition.proofs.Accepted.{both-passed, test-failed}
 use Rattle.definition.proofs.Entries.{Read, log-back, log-sound}
-use Rattle.definition.proofs.SetupWords.{setup-back, shape-small, setup-length, setup-most, setup-words}
+use Rattle.definition.proofs.SetupWords.{setup-back, shape-small, length-read, setup-words-fit}
+use Rattle.definition.proofs.Lengths.{record-length, record-fits}
 use Rattle.definition.proofs.SetupRead.{setup-read, words-of-setup}
 
 -- ---- the log's words are those of the replies
@@ -48,55 +48,44 @@ module _ (z : Lengths) (s : Setup) (rs : List Reply) (ok : Sound z s rs) (f : Se
   saved-checked : checkWords z saved (sums saved .plain) (sums saved .running) ≡ none
   unfolding checkWords setupWords
   saved-checked =
-      let p = accepted-passed s (ok .accepted) in
-      let same = setup-back s (logWords rs) p f in
+      let a = ok .accepted in
+      let same = setup-back s (logWords rs) a f in
       let long : ltb (length saved) (setupLength (getD saved 0 0)) ≡ false
-      = le-ltb (length saved) (setupLength (getD saved 0 0)) (omega (arith, setup-length s p, length-append (setupWords s) (logWords rs))) in
+      = le-ltb (length saved) (setupLength (getD saved 0 0)) (omega (arith, length-read s a, length-append (setupWords s) (logWords rs))) in
       let area : ltb (z .area) (areaNeeded s) ≡ false = le-ltb (z .area) (areaNeeded s) (ok .area) in
-      let spare : spareBits (getD saved 0 0) ≡ false = lt-leb _ (getD saved 0 0) (omega (arith, shape-small s p)) in
+      let spare : spareBits (getD saved 0 0) ≡ false = lt-leb _ (getD saved 0 0) (omega (arith, shape-small s a)) in
       simp (eq-eqb (sums saved .plain) (sums saved .plain) refl, eq-eqb (sums saved .running) (sums saved .running) refl, long, spare, same, ok .accepted, area)
 
   behind-setup : drop (setupLength (getD saved 0 0)) saved ≡ logWords rs
   unfolding setupWords
-  behind-setup = drop-at (setupWords s) (logWords rs) (setupLength (getD saved 0 0)) (sym (setup-length s (accepted-passed s (ok .accepted))))
+  behind-setup = drop-at (setupWords s) (logWords rs) (setupLength (getD saved 0 0)) (sym (length-read s (ok .accepted)))
 
   saved-read : readWords z saved (sums saved .plain) (sums saved .running) ≡ Reading.accepted s rs
   unfolding readWords
   saved-read =
-      rw (saved-checked, behind-setup, setup-back s (logWords rs) (accepted-passed s (ok .accepted)) f) (ap (readingOf s) (log-back s (z .log) rs (ok .due) (ok .log)))
-
-record-length : (s : Setup) (rs : List Reply) → length (recordWords s rs) ≡ length (setupWords s ++ logWords rs) + 4
-unfolding recordWords
-record-length s rs = length-append (setupWords s ++ logWords rs) (trailer (setupWords s ++ logWords rs))
-
--- what a record takes: 8 bytes a word, and besides the log's words at most 203
-pub record-bytes : (s : Setup) (rs : List Reply) → length (recordBytes s rs) ≡ 8 * length (recordWords s rs)
-unfolding recordBytes
-record-bytes s rs = bytes-length (recordWords s rs)
-
-pub record-most : (s : Setup) (rs : List Reply) → Accepted s → length (recordWords s rs) ≤ length (logWords rs) + 203
-record-most s rs a = omega (arith, record-length s rs, length-append (setupWords s) (logWords rs), setup-most s (accepted-passed s a))
+      rw (saved-checked, behind-setup, setup-back s (logWords rs) (ok .accepted) f) (ap (readingOf s) (log-back s (z .log) rs (ok .due) (ok .log)))
 
 fit-words : (s : Setup) (rs : List Reply) → Accepted s → SetupFloats s → ReplyWords rs → Words (setupWords s ++ logWords rs)
-fit-words s rs a f w = each-join _ (setupWords s) (logWords rs) (setup-words s (accepted-passed s a) f) (log-words rs w)
+fit-words s rs a f w = each-join _ (setupWords s) (logWords rs) (setup-words-fit s a f) (log-words rs w)
 
 -- a record of a sound fit, behind any bytes
 pub saved-reads-back : (z : Lengths) (ahead : List ℕ) (s : Setup) (rs : List Reply)
-    → Sound z s rs → SetupFloats s → ReplyWords rs → length (recordWords s rs) < wordSize
-    → readRecord z (ahead ++ recordBytes s rs) ≡ Reading.accepted s rs
+    → Sound z s rs → SetupFloats s → ReplyWords rs → readRecord z (ahead ++ recordBytes s rs) ≡ Reading.accepted s rs
 unfolding recordBytes recordWords
-saved-reads-back z ahead s rs ok f w size =
+saved-reads-back z ahead s rs ok f w =
+    let size = record-fits s rs (ok .accepted) (ok .due) in
     let ws = setupWords s ++ logWords rs in
     read-framed z ahead ws (sums ws .plain) (sums ws .running) (fit-words s rs (ok .accepted) f w) (trailer-words ws (omega (arith, record-length s rs, size)))
     ∙ saved-read z s rs ok f
 
 -- exactly one word before the trailer changed, to any other word
 pub changed-record-refused : (z : Lengths) (ahead : List ℕ) (s : Setup) (rs : List Reply) (i w : ℕ)
-    → Accepted s → SetupFloats s → ReplyWords rs → length (recordWords s rs) < wordSize
+    → Accepted s → Due s rs → SetupFloats s → ReplyWords rs
     → i + 4 < length (recordWords s rs) → w < wordSize → w ≢ getD (recordWords s rs) i 0
     → readRecord z (ahead ++ bytes (set (recordWords s rs) i w)) ≡ Reading.refused (plainRefusal 18)
 unfolding recordWords
-changed-record-refused z ahead s rs i w a f r size at small other =
+changed-record-refused z ahead s rs i w a d f r at small other =
+    let size = record-fits s rs a d in
     let ws = setupWords s ++ logWords rs in
     let here : i < length ws = omega (arith, record-length s rs, at) in
     rw (set-append-left ws (trailer ws) i w here)
@@ -172,7 +161,7 @@ module _ (z : Lengths) (bs : List ℕ) (s : Setup) (rs : List Reply) (e : readRe
   words-are h =
       let k = reading in
       let ws = found .ws in
-      let setup = words-of-setup ws h (k .long) (k .small) (accepted-passed (setupIn ws) (k .accepted)) in
+      let setup = words-of-setup ws h (k .long) (k .small) (k .accepted) in
       sym (take-append-drop (setupLength (getD ws 0 0)) ws)
       ∙ ap₂ _++_ (sym setup ∙ ap setupWords (k .setup)) (sym (log .spelled) ∙ append-nil (logWords rs))
 

@@ -15,10 +15,11 @@ use Rattle.definition.specs.Number.{toFloat, toWord}
 use Rattle.definition.specs.Vector.{tab}
 use Rattle.definition.specs.Problem.{Bounds, Scheme, orElse}
 use Rattle.definition.specs.Record.{absent, optionalFloat, boxFlag, schemeFlag, boundWords, shapeWord, setupWords, floatGiven, countGiven, nIn, maxcorIn, hasBox, setupLength, floatsAt, setupIn, wordSize}
+use Rattle.definition.specs.Replies.{Accepted}
 use Rattle.definition.specs.Values.{Each, Given, Words, Binary64, BoxFloats, SetupFloats}
 use Rattle.definition.proofs.Lists.{each-at, each-so, each-take, each-drop}
-use Rattle.definition.proofs.Setups.{Finite, Passed}
-use Rattle.definition.proofs.SetupWords.{Plain, finite-plain, word-back, Sides}
+use Rattle.definition.proofs.Accepted.{Finite, Plain, Sides, accepted-passed}
+use Rattle.definition.proofs.SetupWords.{finite-plain, word-back}
 
 -- ---- floats of binary64
 
@@ -110,13 +111,14 @@ module _ (ws : List ℕ) (h : Words ws) where
       → map toWord (floatsAt ws 7 n) ++ boundWords (cond t (some (boxAt ws n)) none) ≡ take (cond t (3 * n) n) (drop 7 ws)
   point-words n m false p b = append-nil (map toWord (floatsAt ws 7 n)) ∙ floats-word 7 n p
   point-words n m true p b =
-      ap₂ _++_ (floats-word 7 n p) (ap₂ _++_ (floats-word (7 + n) n (b .0 .plain)) (floats-word (7 + 2 * n) n (b .1 .plain)))
+      ap₂ _++_ (floats-word 7 n p) (ap₂ _++_ (floats-word (7 + n) n (b .lower .plain)) (floats-word (7 + 2 * n) n (b .upper .plain)))
       ∙ rw (← (drop-drop n 7 ws), ← (drop-drop (2 * n) 7 ws)) (sym (take-three n (drop 7 ws)))
 
   -- long enough, and with no spare bit set
-  pub words-of-setup : setupLength (getD ws 0 0) ≤ length ws → getD ws 0 0 < 262144 → Passed (setupIn ws) → setupWords (setupIn ws) ≡ take (setupLength (getD ws 0 0)) ws
+  pub words-of-setup : setupLength (getD ws 0 0) ≤ length ws → getD ws 0 0 < 262144 → Accepted (setupIn ws) → setupWords (setupIn ws) ≡ take (setupLength (getD ws 0 0)) ws
   unfolding setupWords setupIn tab
-  words-of-setup long small p =
+  words-of-setup long small a =
+      let p = accepted-passed (setupIn ws) a in
       let w = getD ws 0 0 in
       let n = nIn w in
       let enough = at-least (hasBox w) n (length ws) long in

@@ -2,33 +2,30 @@
 use Prim.Native.Nat.{ℕ, _+_, _*_, _/_, _%_, _≤_, _<_}
 use native.Mathlib.Omega.{arith}
 use mathlib.Core.Path.{_≡_, refl, sym, ap, ap₂, _∙_, subst}
-use mathlib.Core.Bool.{Bool, true, false, not, cond, false≢true}
+use mathlib.Core.Bool.{Bool, not, false≢true}
 use mathlib.Core.List.{List, [], _∷_, _++_, map, append-assoc}
 use mathlib.Core.Option.{Option, none, some}
 use lib.Dec.{T}
 use lib.ListN.{length, take, length-append, length-map}
 use lib.Seq.{take-at, drop-at}
 use lib.Ieee.{Float, binary64, isNan, ofBits}
-use lib.Ieee.Bits.{ofBits-toBits, toBits-ofBits, toBits-lt}
+use lib.Ieee.Bits.{is-false, ofBits-toBits, toBits-ofBits, toBits-lt}
 use lib.Ieee.Scale.{finite}
 use borrow.Author.Tests.{ne-eqb}
 use Rattle.definition.specs.Number.{toFloat, toWord}
 use Rattle.definition.specs.Problem.{Setup, Bounds, Scheme, mostBudget, mostPairs, dimension, orElse}
-use Rattle.definition.specs.Record.{absent, optionalFloat, boxFlag, schemeFlag, boundWords, shapeWord, setupWords, floatGiven, countGiven, nIn, maxcorIn, hasBox, setupLength, floatsAt, boundsIn, schemeIn, setupIn, wordSize}
+use Rattle.definition.specs.Record.{absent, optionalFloat, boxFlag, schemeFlag, boundWords, shapeWord, setupWords, floatGiven, countGiven, nIn, maxcorIn, setupLength, floatsAt, boundsIn, schemeIn, setupIn, wordSize}
+use Rattle.definition.specs.Replies.{Accepted}
 use Rattle.definition.specs.Values.{Each, Given, Words, Binary64, BoxFloats, SetupFloats}
+use Rattle.definition.proofs.Tests.{holds}
+use Rattle.definition.proofs.Finite.{finite-not-nan}
 use Rattle.definition.proofs.Lists.{each-join, each-map}
-use Rattle.definition.proofs.Setups.{Side, Finite, Count, Passed}
+use Rattle.definition.proofs.Accepted.{Finite, Plain, Sides, Count, Passed, accepted-passed}
 
 -- ---- floats
 
-abbrev pub Plain : Float → Type 0
-Plain x = isNan x ≡ false
-
 pub finite-plain : (x : Float) → Finite x → Plain x
-unfolding isNan
-finite-plain lib.Ieee.nan h = sym h
-finite-plain (lib.Ieee.inf s) h = refl
-finite-plain (lib.Ieee.fin s m e) h = refl
+finite-plain x h = is-false (isNan x) (finite-not-nan x (holds h))
 
 pub word-back : (w : ℕ) → w < wordSize → Plain (toFloat w) → toWord (toFloat w) ≡ w
 word-back w h p = toBits-ofBits binary64 w h (subst (λ (t : Bool). T (not t)) (sym p) tt)
@@ -106,9 +103,6 @@ scheme-back w Scheme.central e = rw e
 
 -- ---- a setup from its words
 
-abbrev pub Sides : ℕ → Bounds → Type 0
-Sides n b = Side n (b .lower) × Side n (b .upper)
-
 floats-at : (pre post : List ℕ) (xs : List Float) (k n : ℕ) → length pre ≡ k → length xs ≡ n → Each Binary64 xs → floatsAt (pre ++ (map toWord xs ++ post)) k n ≡ xs
 floats-at pre post xs k n a b f = rw (drop-at pre (map toWord xs ++ post) k a, take-at (map toWord xs) post n (length-map xs toWord ∙ b)) (floats-back xs f)
 
@@ -120,16 +114,17 @@ bounds-back pre log (some b) w n a r e h f =
     let upper = map toWord (b .upper) in
     let split = append-assoc lower upper log in
     let low : floatsAt (pre ++ (lower ++ upper ++ log)) (7 + n) n ≡ b .lower
-    = rw split (floats-at pre (upper ++ log) (b .lower) (7 + n) n a (h .0 .size) (f .0)) in
+    = rw split (floats-at pre (upper ++ log) (b .lower) (7 + n) n a (h .lower .size) (f .0)) in
     let high : floatsAt (pre ++ (lower ++ upper ++ log)) (7 + 2 * n) n ≡ b .upper
     = rw (split, ← (append-assoc pre lower (upper ++ log)))
-    (floats-at (pre ++ lower) log (b .upper) (7 + 2 * n) n (omega (arith, length-append pre lower, length-map (b .lower) toWord, h .0 .size)) (h .1 .size) (f .1)) in
+    (floats-at (pre ++ lower) log (b .upper) (7 + 2 * n) n (omega (arith, length-append pre lower, length-map (b .lower) toWord, h .lower .size)) (h .upper .size) (f .1)) in
     rw (e, r) (ap₂ (λ (x y : List Float). some (record { lower = x; upper = y })) low high)
 
-module _ (s : Setup) (log : List ℕ) (p : Passed s) (f : SetupFloats s) where
+module _ (s : Setup) (log : List ℕ) (a : Accepted s) (f : SetupFloats s) where
   pub setup-back : setupIn (setupWords s ++ log) ≡ s
   unfolding setupIn setupWords
   setup-back =
+      let p = accepted-passed s a in
       let w = shapeWord s in
       let h = shape-is s p in
       let all = setupWords s ++ log in
@@ -152,57 +147,52 @@ module _ (s : Setup) (log : List ℕ) (p : Passed s) (f : SetupFloats s) where
 
 -- ---- its words: how many, and each below 2 ^ 64
 
-bounds-long : (o : Option Bounds) (w n : ℕ) → nIn w ≡ n → w / 65536 % 2 ≡ boxFlag o → Given (Sides n) o → setupLength w ≡ 7 + (n + length (boundWords o))
-bounds-long none w n r e h = rw (e, r) (omega arith)
-bounds-long (some b) w n r e h =
-    rw (e, r)
-    (omega (arith, length-append (map toWord (b .lower)) (map toWord (b .upper)), length-map (b .lower) toWord, length-map (b .upper) toWord, h .0 .size, h .1 .size))
+bounds-length : (n : ℕ) (o : Option Bounds) → Given (Sides n) o → length (boundWords o) ≡ boxFlag o * (2 * n)
+bounds-length n none h = omega arith
+bounds-length n (some b) h =
+    omega (arith, length-append (map toWord (b .lower)) (map toWord (b .upper)), length-map (b .lower) toWord, length-map (b .upper) toWord, h .lower .size, h .upper .size)
+
+length-in : (o : Option Bounds) (w n : ℕ) → nIn w ≡ n → w / 65536 % 2 ≡ boxFlag o → setupLength w ≡ 7 + n + boxFlag o * (2 * n)
+length-in none w n r e = rw (e, r) (omega arith)
+length-in (some b) w n r e = rw (e, r) (omega arith)
+
+box-most : (o : Option Bounds) (n : ℕ) → boxFlag o * (2 * n) ≤ 2 * n
+box-most none n = omega arith
+box-most (some b) n = omega arith
 
 bounds-words : (o : Option Bounds) → Given BoxFloats o → Words (boundWords o)
 bounds-words none f = tt
 bounds-words (some b) f = each-join _ (map toWord (b .lower)) (map toWord (b .upper)) (floats-words (b .lower) (f .0)) (floats-words (b .upper) (f .1))
 
-module _ (s : Setup) (p : Passed s) where
+module _ (s : Setup) (a : Accepted s) where
   pub shape-small : shapeWord s < 262144
-  shape-small = shape-is s p .small
+  shape-small = shape-is s (accepted-passed s a) .small
 
-  pub setup-length : setupLength (shapeWord s) ≡ length (setupWords s)
+  pub setup-length : length (setupWords s) ≡ 7 + dimension s + boxFlag (s .bounds) * (2 * dimension s)
   unfolding setupWords
   setup-length =
-      let h = shape-is s p in
-      let e = bounds-long (s .bounds) (shapeWord s) (dimension s) (h .n-in) (h .b-in) (p .bounds) in
-      omega (arith, e, length-append (map toWord (s .x0)) (boundWords (s .bounds)), length-map (s .x0) toWord)
+      let box = bounds-length (dimension s) (s .bounds) (accepted-passed s a .bounds) in
+      omega (arith, box, length-append (map toWord (s .x0)) (boundWords (s .bounds)), length-map (s .x0) toWord)
+
+  -- as word 0 says
+  pub length-read : setupLength (shapeWord s) ≡ length (setupWords s)
+  length-read =
+      let h = shape-is s (accepted-passed s a) in
+      length-in (s .bounds) (shapeWord s) (dimension s) (h .n-in) (h .b-in) ∙ sym setup-length
 
   pub setup-most : length (setupWords s) ≤ 199
-  setup-most =
-      let h = shape-is s p in
-      omega (arith, sym setup-length, three-most (hasBox (shapeWord s)) (nIn (shapeWord s)), h .n-in, p .size .1)
-    where
-      three-most : (t : Bool) (n : ℕ) → cond t (3 * n) n ≤ 3 * n
-      three-most true n = omega arith
-      three-most false n = omega arith
+  setup-most = omega (arith, setup-length, box-most (s .bounds) (dimension s), accepted-passed s a .size .1)
 
-  pub setup-words : SetupFloats s → Words (setupWords s)
+  pub setup-words-fit : SetupFloats s → Words (setupWords s)
   unfolding setupWords
-  setup-words f = (
-    omega (arith, shape-small),
-    (
-      omega (arith, count-most mostBudget (s .maxiter) (p .maxiter)),
-      (
-        omega (arith, count-most mostBudget (s .maxfev) (p .maxfev)),
-        (
-          option-word (s .tol) (f .tol),
-          (
-            option-word (s .ftol) (f .ftol),
-            (
-              option-word (s .gtol) (f .gtol),
-              (
-                option-word (s .eps) (f .eps),
-                each-join _ (map toWord (s .x0)) (boundWords (s .bounds)) (floats-words (s .x0) (f .x0)) (bounds-words (s .bounds) (f .bounds)),
-              ),
-            ),
-          ),
-        ),
-      ),
-    ),
-  )
+  setup-words-fit f =
+      let p = accepted-passed s a in
+      let points = each-join _ (map toWord (s .x0)) (boundWords (s .bounds)) (floats-words (s .x0) (f .x0)) (bounds-words (s .bounds) (f .bounds)) in
+      let shape : shapeWord s < wordSize = omega (arith, shape-small) in
+      let iterations : orElse (s .maxiter) 0 < wordSize = omega (arith, count-most mostBudget (s .maxiter) (p .maxiter)) in
+      let values : orElse (s .maxfev) 0 < wordSize = omega (arith, count-most mostBudget (s .maxfev) (p .maxfev)) in
+      let tol = option-word (s .tol) (f .tol) in
+      let ftol = option-word (s .ftol) (f .ftol) in
+      let gtol = option-word (s .gtol) (f .gtol) in
+      let eps = option-word (s .eps) (f .eps) in
+      (shape, (iterations, (values, (tol, (ftol, (gtol, (eps, points)))))))

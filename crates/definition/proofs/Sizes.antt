@@ -1,12 +1,12 @@
 -- Sizes: every vector of the machine has n words at all times, there are at most maxcor pairs, and a search has at most 60 trials. Assumes nothing.
-use Prim.Native.Nat.{ℕ, zero, suc, _+_, _≤_}
+use Prim.Native.Nat.{ℕ, _+_, _≤_}
 use native.Mathlib.Omega.{arith}
 use mathlib.Core.Path.{_≡_, refl, sym, ap, _∙_, subst}
 use mathlib.Core.Bool.{Bool, true, false, not, _&&_, _||_, false≢true}
-use mathlib.Core.List.{List, [], _∷_, _++_, map}
+use mathlib.Core.List.{List, [], _∷_, map}
 use mathlib.Core.Option.{Option, none, some}
 use lib.Dec.{eqb, lit≤}
-use lib.ListN.{length, drop, set, length-append, length-drop, length-set, length-map}
+use lib.ListN.{length, set, length-append, length-drop, length-set, length-map}
 use lib.Ieee as Ieee
 use lib.Ieee.{Float}
 use lib.Ieee.Scale.{finite}
@@ -20,9 +20,13 @@ use Rattle.definition.specs.Search.{Search, limitOf, beginSearch, trialP
 use Rattle.definition.specs.Machine.{Reply, State, Place, Machine, state, holding, trying, withCompact, heading, searching, checkDue}
 use Rattle.definition.specs.Driver.{learn, move, withGradient, valued, begin, run}
 use Rattle.definition.specs.Replies.{Accepted, Due}
-use Rattle.definition.specs.Facts.{Each, StateSized, PairSized, PairsSized, Sized}
-use Rattle.definition.proofs.Accepted.{accepted-in-limits, due-length, tab-length}
-use Rattle.definition.proofs.Turns.{Turn, turn, by-test, gathered, aiming, Descends, descend-leads, Gathers, complete-leads, from-leads, probed-leads}
+use Rattle.definition.specs.Values.{Each}
+use Rattle.definition.specs.Facts.{StateSized, PairSized, PairsSized, Sized}
+use Rattle.definition.proofs.Accepted.{accepted-in-limits, due-length}
+use Rattle.definition.proofs.Lists.{each-join, each-drop}
+use Rattle.definition.proofs.Vectors.{length-tab}
+use Rattle.definition.proofs.Tests.{by-test}
+use Rattle.definition.proofs.Turns.{Turn, turn, gathered, aiming, Descends, descend-leads, Gathers, complete-leads, from-leads, probed-leads}
 use Rattle.definition.proofs.Counts.{terms-stay}
 
 -- ---- the trials of a search
@@ -62,16 +66,6 @@ next-few s f v slope =
 
 -- ---- the pairs
 
-module _ {A : Type 0} (P : A → Type 0) where
-  pub each-append : (l r : List A) → Each P l → Each P r → Each P (l ++ r)
-  each-append [] r p q = q
-  each-append (a ∷ l) r p q = (p .0, each-append l r (p .1) q)
-
-  each-drop : (k : ℕ) (l : List A) → Each P l → Each P (drop k l)
-  each-drop zero l p = p
-  each-drop (suc k) [] p = tt
-  each-drop (suc k) (a ∷ l) p = each-drop k l (p .1)
-
 -- room for one more
 Roomy : ℕ → ℕ → List Pair → Type 0
 Roomy n maxcor ps = (length ps + 1 ≤ maxcor) × Each (PairSized n) ps
@@ -92,7 +86,7 @@ updated-pairs n maxcor c s y one p q h =
     let new : Pair = record { s = s; y = y } in
     let room = room-made n maxcor (c .pairs) one h in
     by-test (λ (k : Compact). PairsSized n maxcor (k .pairs)) (curved (dot n s y) (dot n y y) && usable (over (dot n y y) (dot n s y)))
-    (λ _. record { few = omega (arith, length-append old (new ∷ []), room .0); words = each-append (PairSized n) old (new ∷ []) (room .1) ((p, q), tt) })
+    (λ _. record { few = omega (arith, length-append old (new ∷ []), room .0); words = each-join (PairSized n) old (new ∷ []) (room .1) ((p, q), tt) })
     (λ _. h)
 
 -- ---- the machine
@@ -113,7 +107,7 @@ module _ (s : Setup) (one : 1 ≤ maxcorOf s) where
   n-is m h = ap (λ (t : Terms). t .n) (h .0)
 
   n-words : (m : Machine) (f : ℕ → Float) → Keeps m → length (tab (m .terms .n) f) ≡ dimension s
-  n-words m f h = tab-length (m .terms .n) f ∙ n-is m h
+  n-words m f h = length-tab (m .terms .n) f ∙ n-is m h
 
   -- the parts that a step changes
   turned : (m : Machine) (d : List Float) → length d ≡ dimension s → Keeps m → Keeps (heading d m)
@@ -146,7 +140,7 @@ module _ (s : Setup) (one : 1 ≤ maxcorOf s) where
   learned : (m : Machine) → Keeps m → Keeps (learn m)
   unfolding learn
   learned m h =
-      let pairs = updated-pairs (dimension s) (maxcorOf s) (m .compact) _ _ one (tab-length (dimension s) _) (tab-length (dimension s) _) (h .1 .pairWords) in
+      let pairs = updated-pairs (dimension s) (maxcorOf s) (m .compact) _ _ one (length-tab (dimension s) _) (length-tab (dimension s) _) (h .1 .pairWords) in
       paired m (learnt (m .terms) m) (subst (λ (t : Terms). PairsSized (dimension s) (maxcorOf s) (learnt t m .pairs)) (sym (h .0)) pairs) h
 
   descends : Descends Keeps Keeps
@@ -202,8 +196,8 @@ module _ (s : Setup) (one : 1 ≤ maxcorOf s) where
   kept-all : (rs : List Reply) → Due s rs → Keeps (run s rs)
   unfolding run begin projectedStart
   kept-all [] d =
-      let x = tab-length (dimension s) _ in
-      let g = tab-length (dimension s) _ in
+      let x = length-tab (dimension s) _ in
+      let g = length-tab (dimension s) _ in
       (refl, record { heldWords = (x, g); trialWords = (x, g); directionWords = g; pairWords = no-pairs; fewTrials = omega arith })
   kept-all (r ∷ rs) d = kept (turn (run s rs) r) (d .0) (kept-all rs (d .1))
 

@@ -92,10 +92,6 @@ sum-step (fin false m e) (fin false n d) h k =
     both : (a b p q : ℕ) → a ≤ 10_000_000_000 * p → b ≤ 10_000_000_000 * q → a * q + b * p ≤ 20_000_000_000 * (p * q)
     both a b p q h k = omega (arith, mul-le-mul-right q h, mul-le-mul-right p k)
 
-pub step-cond : (t : Bool) (x y : Float) → Step x → Step y → Step (cond t x y)
-step-cond true x y p q = p
-step-cond false x y p q = q
-
 pub min-step : (x y : Float) → T (unsigned x) → Step y → Step (min x y)
 min-step x y u k = go (isNan x) (lt y x) refl
   where

@@ -14,7 +14,7 @@ use Rattle.definition.specs.Record.{Lengths}
 use Rattle.definition.specs.Replies.{Due}
 use Rattle.definition.specs.History.{Call, Answer, History, checkReply, refusal, leftUnless, answerUnless, historyStep, historyAnswer, historyAfter, historyAnswers}
 use Rattle.definition.specs.Sound.{Sound}
-use Rattle.definition.proofs.Entries.{log-length}
+use Rattle.definition.proofs.Entries.{log-more}
 use Rattle.definition.proofs.Histories.{due-struck, log-struck, reply-fits, history-sound, after-append}
 
 -- ---- replies given and taken back
@@ -86,7 +86,7 @@ again-step z h c k cs g step answer next = record {
 
 module _ (z : Lengths) (s : Setup) where
   reply-again : (rs : List Reply) (q : Reply) → Due s (q ∷ rs) → Room z s (q ∷ rs) → checkReply z s rs q ≡ none
-  reply-again rs q d room = rw (d .0, le-ltb (z .log) (length (logWords rs) + length (entryWords q)) (omega (arith, log-length q rs)))
+  reply-again rs q d room = rw (d .0, le-ltb (z .log) (length (logWords rs) + length (entryWords q)) (omega (arith, log-more q rs)))
 
   all-again : (qs rs : List Reply) → Due s (reverseAux qs rs) → Room z s (reverseAux qs rs) → Again z (History.fit s rs) (map Call.reply qs) (History.fit s (reverseAux qs rs))
   unfolding historyAfter historyAnswers

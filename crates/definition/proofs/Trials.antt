@@ -2,7 +2,7 @@
 -- and a trial that it accepts is not above the value held. Assumes nothing.
 use Prim.Native.Nat.{ℕ, zero, suc}
 use native.Mathlib.Omega.{arith}
-use mathlib.Core.Path.{_≡_, refl, sym, subst}
+use mathlib.Core.Path.{_≡_, refl, subst}
 use mathlib.Core.Bool.{Bool, true, false, not, cond, _&&_, _||_}
 use mathlib.Core.List.{List}
 use mathlib.Core.Option.{Option, none, some}
@@ -16,21 +16,14 @@ use Rattle.definition.specs.Number.{plus, times, min, zero64, one64, two
 use Rattle.definition.specs.Vector.{foldTo, dot}
 use Rattle.definition.specs.Problem.{Bounds}
 use Rattle.definition.specs.Search.{Search, searchTrials, Limit, distance, limitOf, firstSearch, withLimit, beginSearch, decreases, flat, onFace, accepts, narrows, lowAfter, highAfter, following, goesOn, afterTrial}
-use Rattle.definition.specs.Facts.{IfGiven}
+use Rattle.definition.specs.Values.{Given}
 use Rattle.definition.specs.Points.{EachFinite}
 use Rattle.definition.proofs.Order.{NotNan, le-of-under, le-refl, le-trans, le-of-not-lt, le-antisymm}
 use Rattle.definition.proofs.Sign.{unsigned, signed, unsigned-of-lt, signed-of-lt, times-sign}
 use Rattle.definition.proofs.Finite.{finite-not-nan, times-not-nan, dot-factors-finite}
 use Rattle.definition.proofs.Descent.{trial-not-above}
-use Rattle.definition.proofs.Steps.{at-most-finite, at-most-unsigned, le-at-most, Step, half-step, sum-step, step-cond, min-step}
-use Rattle.definition.proofs.Turns.{by-test}
-
--- what a test that passed says
-pub holds : {b : Bool} → b ≡ true → T b
-holds e = subst T (sym e) tt
-
-pub both-hold : (a b : Bool) → a && b ≡ true → T a × T b
-both-hold a b e = (and-l a b (holds e), and-r a b (holds e))
+use Rattle.definition.proofs.Steps.{at-most-finite, at-most-unsigned, le-at-most, Step, half-step, sum-step, min-step}
+use Rattle.definition.proofs.Tests.{by-test, holds, both-hold}
 
 -- ---- steps
 
@@ -79,7 +72,7 @@ pub record Running (r : Search) : Type 0 where
   pub alpha : Step (r .alpha)
   pub positive : T (lt zero64 (r .alpha))
   pub low : Step (r .low)
-  pub high : IfGiven Step (r .high)
+  pub high : Given Step (r .high)
   pub amax : Step (r .amax)
   pub slope : T (signed (r .slope0))
 
@@ -126,13 +119,13 @@ begun-running n b x g d r e =
 
 -- the trial after one that is not accepted
 module _ (r : Search) (f v slope : Float) (h : Running r) where
-  high-step : IfGiven Step (highAfter r f v slope)
-  high-step = by-test (IfGiven Step) (narrows r f v slope) (λ _. h .alpha) (λ _. h .high)
+  high-step : Given Step (highAfter r f v slope)
+  high-step = by-test (Given Step) (narrows r f v slope) (λ _. h .alpha) (λ _. h .high)
 
   low-step : Step (lowAfter r f v slope)
-  low-step = step-cond (narrows r f v slope) (r .low) (r .alpha) (h .low) (h .alpha)
+  low-step = by-test Step (narrows r f v slope) (λ _. h .low) (λ _. h .alpha)
 
-  following-step : (low : Float) (high : Option Float) → Step low → IfGiven Step high → Step (following r low high)
+  following-step : (low : Float) (high : Option Float) → Step low → Given Step high → Step (following r low high)
   following-step low none p q = min-step (times (r .alpha) two64) (r .amax) (twice-unsigned (r .alpha) (h .alpha)) (h .amax)
   following-step low (some high) p q = half-step (plus low high) (sum-step low high p q)
 

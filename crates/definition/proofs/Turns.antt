@@ -16,11 +16,7 @@ use Rattle.definition.specs.Search.{Search, beginSearch, trialPoint, acc
 use Rattle.definition.specs.Machine.{Reply, Place, Side, Phase, Machine, state, inPhase, counting, holding, trying, withCompact, heading, searching, withRight, ending, kindOf, suits, takes}
 use Rattle.definition.specs.Driver.{Ends, chosenEnd, endsOf, gradientSmall, decreaseSmall, askValue, tryStep, trySearch, searchAlong, towards, byModel, withoutPairs, orWithoutPairs, descend, iterate, learn, move, judgeTrial, measured, complete, withGradient, withComponent, byProbes, probeFrom, probedTo, probed, valued, onValue, onGradient, onNotSupplied, onProbe, onGoOn, answerIn, answer}
 use Rattle.definition.specs.Facts.{unprobed, unprobedFrom, lastProbe, lastAsked, completesIn, completesGradient, gradientFinite}
-
--- by either branch of a test
-pub by-test : {A : Type 0} (P : A → Type 0) (t : Bool) {a b : A} → (t ≡ true → P a) → (t ≡ false → P b) → P (cond t a b)
-by-test P true f g = f refl
-by-test P false f g = g refl
+use Rattle.definition.proofs.Tests.{by-test}
 
 -- ---- the step that a reply makes
 

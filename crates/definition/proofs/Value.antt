@@ -16,10 +16,11 @@ use Rattle.definition.specs.Points.{Reported, atNotice, takesTrial}
 use Rattle.definition.proofs.Accepted.{due-taken}
 use Rattle.definition.proofs.Order.{le-refl, le-trans}
 use Rattle.definition.proofs.Finite.{finite-not-nan}
-use Rattle.definition.proofs.Turns.{by-test, none-suits}
+use Rattle.definition.proofs.Tests.{by-test}
+use Rattle.definition.proofs.Turns.{none-suits}
 use Rattle.definition.proofs.Leads.{Leads, Known, answer-leads}
 use Rattle.definition.proofs.Own.{still-first, start-asked-first, probed-coordinate}
-use Rattle.definition.proofs.Sound.{next-value}
+use Rattle.definition.proofs.Questions.{next-value}
 
 pub held-value-never-rises :
     (s : Setup) (r : Reply) (rs : List Reply) → Accepted s → Due s (r ∷ rs) → Reported s rs

@@ -108,8 +108,8 @@ abbrev pub EachFinite : ℕ → List Float → Type 0
 EachFinite n v = (i : ℕ) → i < n → T (finite (word v i))
 
 -- the bounds are in order
-abbrev pub Ordered : Terms → Type 0
-Ordered t = (i : ℕ) → i < t .n → T (le (word (t .bounds .lower) i) (word (t .bounds .upper) i))
+abbrev pub BoundsOrdered : Terms → Type 0
+BoundsOrdered t = (i : ℕ) → i < t .n → T (le (word (t .bounds .lower) i) (word (t .bounds .upper) i))
 
 -- ---- the search
 

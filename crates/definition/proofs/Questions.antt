@@ -10,7 +10,7 @@ use lib.Ieee.{Float, binary64, fits, le}
 use lib.Ieee.Bits.{ofBits-fits}
 use lib.Ieee.Scale.{finite}
 use Rattle.definition.specs.Number.{minus, toFloat}
-use Rattle.definition.specs.Vector.{word, dot, difference}
+use Rattle.definition.specs.Vector.{word, difference}
 use Rattle.definition.specs.Problem.{Setup, Terms, termsOf}
 use Rattle.definition.specs.Gradient.{probesAt}
 use Rattle.definition.specs.Search.{Search, beginSearch, accepts, afterTrial}
@@ -18,16 +18,17 @@ use Rattle.definition.specs.Machine.{Reply, State, Place, Phase, Machine
 use Rattle.definition.specs.Driver.{learn, move, answer, begin, run}
 use Rattle.definition.specs.Replies.{Accepted, Due}
 use Rattle.definition.specs.Facts.{gradientFinite}
-use Rattle.definition.specs.Points.{Reported, InBox, EachFinite, Ordered, asks}
+use Rattle.definition.specs.Points.{Reported, InBox, EachFinite, BoundsOrdered, asks}
 use Rattle.definition.proofs.Accepted.{due-taken}
 use Rattle.definition.proofs.Order.{le-refl, le-trans}
 use Rattle.definition.proofs.Vectors.{getD-tab}
 use Rattle.definition.proofs.Finite.{finite-not-nan, minus-terms-finite, words-finite}
 use Rattle.definition.proofs.Steps.{at-most-finite}
-use Rattle.definition.proofs.Trials.{holds, Running, accepted-not-above, begun-running, next-running}
+use Rattle.definition.proofs.Tests.{holds}
+use Rattle.definition.proofs.Trials.{Running, accepted-not-above, begun-running, next-running}
 use Rattle.definition.proofs.Inside.{accepted-ordered, start-in-box, line-in-box}
 use Rattle.definition.proofs.Turns.{aiming}
-use Rattle.definition.proofs.Leads.{Leads, Known, answer-leads}
+use Rattle.definition.proofs.Leads.{trialSlope, Leads, Known, answer-leads}
 
 -- ---- what is known
 
@@ -81,12 +82,9 @@ FactsIn m (Phase.ended t) = Unit {0}
 abbrev PlacedOf : Setup → Machine → Type 0
 PlacedOf s m = Placed s (m .terms) (m .held .x) (m .trial .x)
 
-pub record Sound (s : Setup) (m : Machine) : Type 0 where
+pub record AtQuestion (s : Setup) (m : Machine) : Type 0 where
   pub placed : Placed s (m .terms) (m .held .x) (m .trial .x)
   pub facts : FactsIn m (m .phase)
-
-abbrev slopeOf : Machine → Float
-slopeOf m = dot (m .terms .n) (m .trial .g) (m .direction)
 
 -- a finite direction leads from a finite point
 finite-start : (n : ℕ) (end x d : List Float) → d ≡ difference n end x → EachFinite n d → EachFinite n x
@@ -96,7 +94,7 @@ finite-start n end x d e h i l =
 
 -- ---- a step from the machine b
 
-module _ (s : Setup) (ordered : Ordered (termsOf s)) (b : Machine) where
+module _ (s : Setup) (ordered : BoundsOrdered (termsOf s)) (b : Machine) where
   -- not above the value held before, where there was one
   abbrev Low : Float → Type 0
   Low v = unreported (b .phase) ≡ false → Number v × T (le v (b .held .f))
@@ -115,7 +113,7 @@ module _ (s : Setup) (ordered : Ordered (termsOf s)) (b : Machine) where
 
   aimed : (m : Machine) (r : Search) → PlacedOf s m → Low (m .held .f) → Line (m .terms) (m .held) (m .direction) r → Aimed (aiming r m)
   aimed m r p l k =
-      let ordered-here = subst Ordered (sym (p .terms)) ordered in
+      let ordered-here = subst BoundsOrdered (sym (p .terms)) ordered in
       let alpha = at-most-finite 10_000_000_000 (r .alpha) (k .search .alpha) in
       let trial = line-in-box (m .terms) (m .held .x) (m .direction) (r .alpha) ordered-here (k .point) (k .direction) alpha in
       (record { terms = p .terms; held = p .held; trial = trial }, l, k)
@@ -129,10 +127,10 @@ module _ (s : Setup) (ordered : Ordered (termsOf s)) (b : Machine) where
       aimed m r (h .0) (h .1) (record { standing = h .2; point = point; direction = k .0; search = k .1 })
 
   next-aimed :
-      (m : Machine) (r : Search) → Gathering Place.trial m → afterTrial (m .search) (m .held .f) (m .trial .f) (slopeOf m) ≡ some r → Aimed (aiming r m)
+      (m : Machine) (r : Search) → Gathering Place.trial m → afterTrial (m .search) (m .held .f) (m .trial .f) (trialSlope m) ≡ some r → Aimed (aiming r m)
   next-aimed m r h q =
       let k = h .2 .place in
-      let search = next-running (m .search) (m .held .f) (m .trial .f) (slopeOf m) (k .search) r q in
+      let search = next-running (m .search) (m .held .f) (m .trial .f) (trialSlope m) (k .search) r q in
       aimed m r (h .0) (h .1) (record { standing = k .standing; point = k .point; direction = k .direction; search = search })
 
   -- the trial is held
@@ -146,12 +144,12 @@ module _ (s : Setup) (ordered : Ordered (termsOf s)) (b : Machine) where
   )
 
   moved :
-      (m : Machine) → Gathering Place.trial m → gradientFinite m ≡ true → accepts (m .search) (m .held .f) (m .trial .f) (slopeOf m) ≡ true
+      (m : Machine) → Gathering Place.trial m → gradientFinite m ≡ true → accepts (m .search) (m .held .f) (m .trial .f) (trialSlope m) ≡ true
       → Next (move (learn m))
   unfolding move learn
   moved m h e q =
       let k = h .2 in
-      let fell = accepted-not-above (m .search) (m .held .f) (m .trial .f) (slopeOf m) (k .place .search) (k .value .fitting) (k .value .whole) q in
+      let fell = accepted-not-above (m .search) (m .held .f) (m .trial .f) (trialSlope m) (k .place .search) (k .value .fitting) (k .value .whole) q in
       settled m (h .0) (h .1) (k .found) fell e
 
   leads : Leads Gathering Seeking Aimed Next
@@ -205,16 +203,16 @@ module _ (s : Setup) (ordered : Ordered (termsOf s)) (b : Machine) where
 -- ---- every list of replies
 
 module _ (s : Setup) (accepted : Accepted s) where
-  step : (m : Machine) (r : Reply) → takes m r ≡ true → Sound s m → Next s (accepted-ordered s accepted) m (answer m r)
+  step : (m : Machine) (r : Reply) → takes m r ≡ true → AtQuestion s m → Next s (accepted-ordered s accepted) m (answer m r)
   step m r d h =
       let o = accepted-ordered s accepted in
       answer-leads (leads s o m) m r d (λ p e. known s o m r p e (h .placed) (subst (FactsIn m) e (h .facts)))
 
-  pub sound : (rs : List Reply) → Due s rs → Sound s (run s rs)
+  pub at-question : (rs : List Reply) → Due s rs → AtQuestion s (run s rs)
   unfolding run begin
-  sound [] d = let x = start-in-box s accepted in record { placed = record { terms = refl; held = x; trial = x }; facts = tt }
-  sound (r ∷ rs) d =
-      let q = step (run s rs) r (due-taken (run s rs) r (d .0)) (sound rs (d .1)) in
+  at-question [] d = let x = start-in-box s accepted in record { placed = record { terms = refl; held = x; trial = x }; facts = tt }
+  at-question (r ∷ rs) d =
+      let q = step (run s rs) r (due-taken (run s rs) r (d .0)) (at-question rs (d .1)) in
       record { placed = q .0; facts = q .2 }
 
   -- the next value held, where there was one
@@ -222,4 +220,4 @@ module _ (s : Setup) (accepted : Accepted s) where
       (rs : List Reply) (r : Reply) → Due s (r ∷ rs) → Reported s rs
       → Number (run s (r ∷ rs) .held .f) × T (le (run s (r ∷ rs) .held .f) (run s rs .held .f))
   unfolding run
-  next-value rs r d e = step (run s rs) r (due-taken (run s rs) r (d .0)) (sound rs (d .1)) .1 e
+  next-value rs r d e = step (run s rs) r (due-taken (run s rs) r (d .0)) (at-question rs (d .1)) .1 e
