@@ -1,3 +1,4 @@
 pub mod Order
 pub mod Paths
 pub mod Segments
+pub mod Cells

@@ -2,9 +2,8 @@
 -- read off the array. Assumes nothing.
 use mathlib.Core.Path.{_≡_, refl, sym, ap, _∙_}
 use mathlib.Core.Bool.{Bool, true, false, cond}
-use mathlib.Core.Logic.{⊎-elim}
 use mathlib.Core.List.{List, [], _∷_, _++_, map}
-use Prim.Native.Nat.{ℕ, zero, suc, _+_, _≤_, _<_}
+use Prim.Native.Nat.{ℕ, zero, suc, _+_, _-_, _≤_, _<_}
 use native.Mathlib.Nat.{le-trans, le-of-lt, lt-trans, le-of-suc-le-suc}
 use native.Mathlib.Numerals.{add-one}
 use native.Mathlib.Omega.{arith}
@@ -21,7 +20,7 @@ use Rattle.area.specs.Area.{Vecs, view, wordsAt, X, G}
 use Rattle.area.proofs.Laws.{word-view}
 use Rattle.cauchy.specs.declared.BreakTime.{BreakTime}
 use Rattle.cauchy.specs.declared.Breaks.{Breaks}
-use Rattle.cauchy.specs.State.{boundsOf, breakOf, noBreakTime, sift, breakList, Rising, Listed, Ordered, Inserted, Kept, Found, breakTimeIn}
+use Rattle.cauchy.specs.State.{boundsOf, breakOf, noBreakTime, sift, breakList, Rising, Ordered, Inserted, Kept, Found, breakTimeIn}
 
 -- by a test's two values
 by-test : (P : Bool → Type 0) (t : Bool) → (t ≡ true → P true) → (t ≡ false → P false) → P t
@@ -83,6 +82,27 @@ by-sift : (P : List BreakTime → Type 0) (k : ℕ) (bs : List BreakTime) (t : B
     → P (sift (suc k) bs t)
 unfolding sift
 by-sift P k bs t f g = by-test (λ (y : Bool). P (cond y (set bs (suc k) t) (sift k (movedUp k bs) t))) (totalLe (getD bs k noBreakTime .time) (t .time)) f g
+
+-- one step of it: the break before k is later, or is not, or there is none
+pub sift-moves : (k : ℕ) (bs : List BreakTime) (t : BreakTime) → 0 < k → totalLe (getD bs (k - 1) noBreakTime .time) (t .time) ≡ false
+    → sift k bs t ≡ sift (k - 1) (set bs k (getD bs (k - 1) noBreakTime)) t
+unfolding sift
+sift-moves zero bs t h e = absurd (let z : ⊥ = omega arith in z)
+sift-moves (suc k) bs t h e =
+    let d : suc k - 1 ≡ k = omega arith in
+    rw d (simp (rw d at e))
+
+pub sift-rests : (k : ℕ) (bs : List BreakTime) (t : BreakTime) → 0 < k → totalLe (getD bs (k - 1) noBreakTime .time) (t .time) ≡ true → sift k bs t ≡ set bs k t
+unfolding sift
+sift-rests zero bs t h e = absurd (let z : ⊥ = omega arith in z)
+sift-rests (suc k) bs t h e =
+    let d : suc k - 1 ≡ k = omega arith in
+    simp (rw d at e)
+
+pub sift-first : (k : ℕ) (bs : List BreakTime) (t : BreakTime) → k ≤ 0 → sift k bs t ≡ set bs k t
+unfolding sift
+sift-first zero bs t h = refl
+sift-first (suc k) bs t h = absurd (let z : ⊥ = omega arith in z)
 
 pub sift-length : (k : ℕ) (bs : List BreakTime) (t : BreakTime) → length (sift k bs t) ≡ length bs
 unfolding sift

@@ -173,6 +173,7 @@ fn with_time(b: Breaks, t: f64, i: usize) -> Breaks
     b
 }
 
+// Sixty-four places, of which none is used.
 fn no_breaks() -> Breaks
     ensures { λ r. ⌜ (length (r .list) ≡ 64) × (r .count ≡ 0) ⌝ }
 {
@@ -222,6 +223,7 @@ fn no_bound() -> f64
     0.0 / 0.0
 }
 
+// Every coordinate takes its direction.
 fn set_off(area: &mut [f64], n: usize)
     requires { ⌜ 16 * n ≤ length (now area) ⌝ }
     ensures { λ _. ⌜ view (now (area .exit)) n ≡ rowwise n Velocity (λ i w. velocityIn w) (view (now (area .entry)) n) ⌝ }
@@ -327,12 +329,13 @@ fn point_at(area: &[f64], n: usize, i: usize) -> f64
 {
     let bound = area[area::ACTIVE * n + i];
     let x = area[area::X * n + i] + area[area::DISPLACEMENT * n + i];
-    if float::is_nan(bound) {
-        return float::clamp(x, area[area::LOWER * n + i], area[area::UPPER * n + i]);
+    if !float::is_nan(bound) {
+        return bound;
     }
-    bound
+    float::clamp(x, area[area::LOWER * n + i], area[area::UPPER * n + i])
 }
 
+// The point of every coordinate.
 fn put_point(area: &mut [f64], n: usize)
     requires { ⌜ 16 * n ≤ length (now area) ⌝ }
     ensures { λ _. ⌜ view (now (area .exit)) n ≡ rowwise n Cauchy (λ i w. pointIn w) (view (now (area .entry)) n) ⌝ }
@@ -356,6 +359,7 @@ fn point_on_path(area: &mut [f64], n: usize) -> bool
 
 // ---- segments
 
+// Zero so far, and here.
 fn both_zero(ok: bool, x: f64) -> bool
     ensures { λ r. ⌜ r ≡ (ok && Ieee.eq x zero64) ⌝ }
 {

@@ -1,6 +1,5 @@
 -- `cauchy::find_breaks` meets its contract: b holds the breaks of the first i coordinates. Assumes nothing.
 use Prim.Native.Nat.{_-_}
-use native.Mathlib.Omega.{arith}
 use borrow.Author.Needs.{needs}
 use Rattle.area.specs.Area.{view}
 use Rattle.cauchy.proofs.Order.{Finding, finding-none, finding-more, finding-ordered, finding-done}

@@ -1,6 +1,5 @@
 -- `cauchy::generalized_cauchy` meets its contract: the path is on its way from its start. Assumes nothing.
 use mathlib.Core.Path.{_≡_, refl, _∙_}
-use native.Mathlib.Omega.{arith}
 use borrow.Author.Needs.{needs}
 use lib.ListN.{length}
 use Rattle.area.specs.Area.{view}

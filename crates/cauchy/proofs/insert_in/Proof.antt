@@ -2,11 +2,11 @@
 -- (the logic's `Denote/Examples/Count.antt` for the loop, and `Slices/Put.antt` and `At.antt` for an element).
 -- Assumes nothing.
 use mathlib.Core.Path.{_≡_, refl, sym, _∙_, ap, subst}
-use Prim.Native.Nat.{ℕ, zero, suc, _<_, _≤_, _^_, _*_, _-_}
+use Prim.Native.Nat.{ℕ, _<_, _≤_, _^_, _-_}
 use native.Mathlib.Nat.{le-refl, lt-of-le-of-lt}
 use native.Mathlib.Omega.{arith}
 use mathlib.Core.WellFounded.{WellFounded, InvImage·wf}
-use mathlib.Core.Bool.{Bool, true, false, not}
+use mathlib.Core.Bool.{Bool, not}
 use lib.WfN.{Nat·lt-wfRel}
 use lib.Dec.{T as Holds, ltb, ltb→lt, nltb→le}
 use mathlib.Core.List.{[], _∷_, List}
@@ -35,9 +35,9 @@ use denote.Memory.{mem, cellAt, pointee}
 use denote.Plain.{uint-vals, uint-tells, bool-lawful}
 use denote.Builtin.{usize, bool}
 use denote.Ref.{RefT, now}
-use denote.Slice.{sliceTy, sliceVal, MutSlice, ShrSlice, Room, heres, codedHoleys, at-slice, slice-vals, mut-slice-tells, shr-slice-tells}
+use denote.Slice.{sliceTy, sliceVal, MutSlice, Room, heres, codedHoleys, at-slice, slice-vals, mut-slice-tells}
 use denote.Lend.{Held}
-use denote.Index.{row, place, place-is, elem-out, elem-put, elem-back, opens-slice, closes-slice, looks-slice, shuts-slice}
+use denote.Index.{row, place, place-is, elem-out, elem-put, elem-back, opens-slice, closes-slice}
 use denote.Signature.{plain}
 use denote.Steps.{only, owned, facts, heard, nothing}
 use denote.Struct.Laws as LL
@@ -47,11 +47,13 @@ use denote.Triple.Entry.{Vals, onEntry}
 use denote.Triple.Spec.{Meets, tripleOf}
 use denote.Triple.Table.{entered, cited}
 use denote.Triple.Clauses.{ensured, lasts}
-use denote.Triple.Walked.{says, needs, Stays, stay-slice, stay-none, stay-none-slice, walkOf, goes-slice, goes-none, goes-none-slice, Walks, ends-at, walked, walk-meets}
+use denote.Triple.Walked.{says, needs, Stays, stay-slice, stay-none, walkOf, goes-slice, goes-none, Walks, ends-at, walked, walk-meets}
 use denote.Exit.{yes}
 use Rattle.definition.specs.Number.{totalLe}
 use Rattle.cauchy.specs.declared.BreakTime.{BreakTime}
 use Rattle.cauchy.specs.State.{noBreakTime, sift}
+use Rattle.cauchy.proofs.Order.{sift-moves, sift-rests, sift-first}
+use Rattle.cauchy.proofs.Cells.{holds, fails, val, vals}
 use Rattle.cauchy.proofs.BreakTime as T
 use Rattle.cauchy.proofs.BreakTime.Laws as T′
 use Rattle.cauchy.proofs.not_later as callee
@@ -63,40 +65,6 @@ use Rattle.cauchy.proofs.insert_in as this
 use Rattle.cauchy.proofs.insert_in.Statement as stated
 use Rattle.cauchy.proofs.insert_in.Code as code
 use Rattle.cauchy.proofs.insert_in.Code.Mir as pieces
-
-abbrev val : BreakTime → Val
-val h = LL.val T.the-type T′.the-laws h
-
-abbrev vals : BreakTime → List Val
-vals = LL.vals T.the-type T′.the-laws
-
--- ---- the definition, one step of it
-moved : (k : ℕ) (a : List BreakTime) (t : BreakTime) → 0 < k → totalLe (getD a (k - 1) noBreakTime .time) (t .time) ≡ false → sift k a t ≡ sift (k - 1) (set a k (getD a (k - 1) noBreakTime)) t
-unfolding sift
-moved zero a t h e = absurd (let z : ⊥ = omega arith in z)
-moved (suc k) a t h e =
-    let d : suc k - 1 ≡ k = omega arith in
-    rw d (simp (rw d at e))
-
-rests : (k : ℕ) (a : List BreakTime) (t : BreakTime) → 0 < k → totalLe (getD a (k - 1) noBreakTime .time) (t .time) ≡ true → sift k a t ≡ set a k t
-unfolding sift
-rests zero a t h e = absurd (let z : ⊥ = omega arith in z)
-rests (suc k) a t h e =
-    let d : suc k - 1 ≡ k = omega arith in
-    simp (rw d at e)
-
-none : (k : ℕ) (a : List BreakTime) (t : BreakTime) → k ≤ 0 → sift k a t ≡ set a k t
-unfolding sift
-none zero a t h = refl
-none (suc k) a t h = absurd (let z : ⊥ = omega arith in z)
-
-holds : (y : Bool) → Holds y → y ≡ true
-holds true _ = refl
-holds false a = absurd a
-
-fails : (y : Bool) → Holds (not y) → y ≡ false
-fails true a = absurd a
-fails false _ = refl
 
 -- what runs after the turn's two tests
 abbrev second : Body → Body
@@ -247,7 +215,7 @@ module _ {M : Type 1} (𝓤 : URA M) (H : Heap 𝓤) (A : Atoms 𝓤) (W : Given
         rewrite ! 11 (λ (u : Val). ‵ (fat fullShare tyBool l₁₁ 0 u)) (ap only is ∙ ap vbool e) refl $
         first ! $ branches ! (load ! (from ! (stop !)) (look ! 11 refl))
         (λ le. jumps ! $ forget ! 11 refl $ forget ! 13 refl $ forget ! 15 refl $ forget ! 17 refl $ forget ! 19 refl $ forget ! 21 refl $ forget ! 23 refl $ exec ! C Λ En pieces.t-3 (atRet En Post) $
-        ends s (sym (rests (s .0) (s .1) v (above less) (holds (totalLe (elem .time) (v .time)) le)) ∙ s .4))
+        ends s (sym (sift-rests (s .0) (s .1) v (above less) (holds (totalLe (elem .time) (v .time)) le)) ∙ s .4))
         (λ nle. skips ! $ exec ! C Λ En after-break (anyQ (Turned s)) $
         assigns ! (bin ! (load ! (from ! (stop !)) (look ! 25 refl)) (lit ! tt) (scaled-fits (s .0) (length ys) 16 (in-ys s) (gn .1))) (from ! (stop !)) (store ! 17 refl (tt, scaled-fits (s .0) (length ys) 16 (in-ys s) (gn .1))) $
         assigns ! (bin ! (load ! (from ! (fld ! refl (stop !))) (look-in ! 31 (sub ! 0 refl (whole !)))) (load ! (from ! (stop !)) (look ! 17 refl)) tt) (from ! (stop !)) (init ! 9 refl (tt, tt)) $
@@ -262,7 +230,7 @@ module _ {M : Type 1} (𝓤 : URA M) (H : Heap 𝓤) (A : Atoms 𝓤) (W : Given
         forget ! 9 refl $ forget ! 11 refl $ forget ! 13 refl $ forget ! 15 refl $ forget ! 17 refl $ forget ! 19 refl $ forget ! 21 refl $ forget ! 23 refl $
         again ! Nearer At s (next less nle) (nearer less))))))))
         )
-        (λ over. jumps ! $ forget ! 19 refl $ exec ! C Λ En pieces.t-3 (atRet En Post) $ ends s (sym (none (s .0) (s .1) v (nltb→le 0 (s .0) over)) ∙ s .4))
+        (λ over. jumps ! $ forget ! 19 refl $ exec ! C Λ En pieces.t-3 (atRet En Post) $ ends s (sym (sift-first (s .0) (s .1) v (nltb→le 0 (s .0) over)) ∙ s .4))
       where
         elem : BreakTime
         elem = getD (s .1) (s .0 - 1) noBreakTime
@@ -286,7 +254,7 @@ module _ {M : Type 1} (𝓤 : URA M) (H : Heap 𝓤) (A : Atoms 𝓤) (W : Given
         j-up = let h = s .2 in omega arith
 
         next : Holds (ltb 0 (s .0)) → Holds (not (totalLe (elem .time) (v .time))) → State
-        next less nle = (s .0 - 1, set (s .1) (s .0) elem, j-up, length-set (s .1) (s .0) elem ∙ s .3, sym (moved (s .0) (s .1) v (above less) (fails (totalLe (elem .time) (v .time)) nle)) ∙ s .4)
+        next less nle = (s .0 - 1, set (s .1) (s .0) elem, j-up, length-set (s .1) (s .0) elem ∙ s .3, sym (sift-moves (s .0) (s .1) v (above less) (fails (totalLe (elem .time) (v .time)) nle)) ∙ s .4)
 
   walk : (𝓣 : Tables 𝓤 H) → Triple 𝓤 (𝓣 .C #cauchy·not-later) (Callee 𝓤 H A at-mem run) → ent 𝓤 (onEntry 𝓤 H A this.signature (κ, tt) (q, tt) x at) (WpFn 𝓤 H (𝓣 .C) (𝓣 .Λ) code.function (sliceVal (b, o) (length ys) ∷ vint w64 n ∷ val v ∷ []) Post)
   walk 𝓣 known =

@@ -1,6 +1,4 @@
 -- `cauchy::stop` meets its contract: the bound that is met, and three stores. Assumes nothing.
-use mathlib.Core.Path.{refl}
-use native.Mathlib.Omega.{arith}
 use Rattle.float.proofs.Constants.{zero-is}
 use Rattle.cauchy.proofs.Paths.{stops}
 use borrow.Author.Needs.{needs}
