@@ -1,8 +1,7 @@
 -- The definition's machine, read off a fit and the vectors of its area.
-use Prim.Native.Nat.{ℕ, _+_, _*_, _≤_, _<_}
+use Prim.Native.Nat.{ℕ, _<_}
 use mathlib.Core.Path.{_≡_}
 use mathlib.Core.List.{List}
-use mathlib.Core.Option.{Option}
 use lib.Ieee.{Float}
 use Rattle.definition.specs.Problem as P
 use Rattle.definition.specs.Compact as C
@@ -12,7 +11,6 @@ use Rattle.counters.specs.Counts.{countersOf, terminationOf}
 use Rattle.counters.specs.declared.Counters.{Counters}
 use Rattle.search.specs.State.{searchOf}
 use Rattle.compact.specs.State.{pairsOf, Sound}
-use Rattle.compact.specs.declared.Shape.{Shape}
 use Rattle.area.specs.Area.{Vecs, view, X, X0, G, Lower, Upper, Trial, TrialGradient, Direction}
 use Rattle.fit.specs.declared.Fit.{Fit}
 use Rattle.fit.specs.declared.Place.{Place}
