@@ -1,7 +1,8 @@
--- Laws of the end of the direction: which vector is lent, its words, and the direction to it. Assumes nothing.
+-- Laws of the end of the direction: both ends, which of them is lent, its words, and the direction to it. Assumes nothing.
 use mathlib.Core.Path.{_≡_, refl, sym, ap, _∙_}
 use mathlib.Core.Bool.{Bool, true, false, cond}
 use mathlib.Core.List.{List}
+use mathlib.Core.Option.{Option, none, some}
 use Prim.Native.Nat.{ℕ, _+_, _-_, _*_, _≤_, _<_}
 use native.Mathlib.Omega.{arith}
 use lib.ListN.{length, take, drop}
@@ -9,10 +10,16 @@ use lib.Ieee as Ieee
 use lib.Ieee.{Float}
 use Rattle.definition.specs.Number.{minus, zero64}
 use Rattle.definition.specs.Vector.{tab, word, dot, difference}
+use Rattle.definition.specs.Driver.{bothEnds}
 use Rattle.area.specs.Area.{Vecs, upd, wordsAt, rowwise, differenceOf, X, G, Direction, Cauchy, Target}
 use Rattle.area.proofs.Laws.{part-lent, length-view, word-view}
 use Rattle.compact.proofs.Laws.{upd-twice}
-use Rattle.subspace.specs.State.{headIn, headed}
+use Rattle.subspace.specs.State.{headIn, Minimizes, endsIn, headed}
+
+-- both ends, where there is a minimum
+pub both-ends : {F : Option (List Float)} {a b : Vecs} {ok : Bool} → Minimizes F a ok b → cond ok (some (endsIn b)) none ≡ bothEnds (a Cauchy) F
+both-ends {a = a} {b = b} {ok = true} m = (λ k. some (record { cauchy = m .cauchy k; target = b Target })) ∙ ap (bothEnds (a Cauchy)) (m .is)
+both-ends {a = a} {ok = false} m = ap (bothEnds (a Cauchy)) (m .is)
 
 -- the part of the area that is vector p
 abbrev lent : List Float → ℕ → ℕ → List Float

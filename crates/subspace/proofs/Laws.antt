@@ -10,19 +10,20 @@ use Rattle.definition.specs.Number.{plus, minus, times, over, negZero}
 use Rattle.definition.specs.Vector.{tab, word, foldTo}
 use Rattle.definition.specs.Solve.{Matrix, entry}
 use Rattle.definition.specs.Compact.{columnWord}
-use Rattle.definition.specs.Geometry.{free, anyFree, freeSum, correction}
+use Rattle.definition.specs.Geometry.{free, freeSum, correction}
 use Rattle.area.specs.Area.{Vecs, upd, view, wordsAt, rowwise, foldRows, fillOf, Cauchy, ProductD, Step}
 use Rattle.area.proofs.Laws.{Folded, fold-more, looped-stays, upd-other}
 use Rattle.compact.specs.declared.Shape.{Shape}
 use Rattle.compact.specs.State.{columnSlot, compactOf, Laid, Modelled}
-use Rattle.compact.proofs.Laws.{tab-get, tab-same, fold-same, pairs-count, upd-twice}
+use Rattle.compact.proofs.Laws.{tab-get, tab-same, fold-same, pairs-count}
 use Rattle.compact.proofs.Columns.{laid-word}
+use Rattle.compact.proofs.Laws.{upd-twice}
 use Rattle.compact.proofs.Models.{modelled-entry}
-use Rattle.subspace.specs.State.{freeIn, boundsOf, freeSumOf, reducedOf}
+use Rattle.subspace.specs.State.{freeIn, boundsOf, anyFreeAt, freeSumAt, reducedAt, correctionsAt}
 
 -- one free coordinate is enough
 pub any-found : (a : List Float) (n i : ℕ) (t : Bool) → Folded a n false (λ i w t. t || freeIn w) false i → i < n → t ≡ freeIn (wordsAt a n i) → t ≡ true
-    → true ≡ anyFree n (boundsOf (view a n)) (view a n Cauchy)
+    → true ≡ anyFreeAt n (view a n)
 unfolding foldRows
 any-found a n i t r l e d =
     let s : Folded a n false (λ i w t. t || freeIn w) true (i + 1) = fold-more r l (sym d ∙ e) in
@@ -37,14 +38,14 @@ free-same n v f g e =
     (λ k s l t. cond (free (boundsOf v) (v Cauchy) k) (plus s (e k l t)) s)
 
 pub reduced-is : {h : Shape} {theta : Float} {m : Matrix} {v : Vecs} (i j : ℕ) (s : Float) → Modelled h theta m v → i < 2 * h .pairs → j < 2 * h .pairs
-    → s ≡ freeSumOf (h .n) v (columnSlot h i) (columnSlot h j) → minus (entry m i j) (over s theta) ≡ reducedOf h theta v i j
+    → s ≡ freeSumAt (h .n) v (columnSlot h i) (columnSlot h j) → minus (entry m i j) (over s theta) ≡ reducedAt h theta v i j
 reduced-is {h} {theta} {m} {v} i j s r k l e =
     let f : s ≡ freeSum (h .n) (boundsOf v) (v Cauchy) (λ k. times (columnWord (compactOf h theta v) i k) (columnWord (compactOf h theta v) j k)) =
     e ∙ free-same (h .n) v _ _ (λ d n t. times (laid-word (r .laid) i d k n t) (laid-word (r .laid) j d l n t)) in
     λ t. minus (modelled-entry i j r k l t) (over (f t) theta)
 
 pub right-is : {h : Shape} {theta : Float} {v : Vecs} (i : ℕ) → Laid h theta v → i < 2 * h .pairs
-    → freeSumOf (h .n) v (columnSlot h i) ProductD ≡ freeSum (h .n) (boundsOf v) (v Cauchy) (λ k. times (columnWord (compactOf h theta v) i k) (word (v ProductD) k))
+    → freeSumAt (h .n) v (columnSlot h i) ProductD ≡ freeSum (h .n) (boundsOf v) (v Cauchy) (λ k. times (columnWord (compactOf h theta v) i k) (word (v ProductD) k))
 right-is {h} {theta} {v} i r k = free-same (h .n) v _ _ (λ d n t. times (laid-word r i d k n t) (word (v ProductD) d))
 
 -- ---- the corrections: b is a, whose step is -0 throughout, with the first k columns added to the step
@@ -81,7 +82,7 @@ added-more {h} {z} {k} {a} {b} {d} r l e =
     }
 
 pub added-done : {h : Shape} {theta : Float} {z : List Float} {k : ℕ} {o a b : Vecs} → Laid h theta o → a ≡ fillOf (h .n) Step negZero o
-    → Added h z a b k → 2 * h .pairs ≤ k → b ≡ upd o Step (tab (h .n) (correction (compactOf h theta o) z))
+    → Added h z a b k → 2 * h .pairs ≤ k → b ≡ upd o Step (correctionsAt h theta o z)
 unfolding fillOf rowwise
 added-done {h} {theta} {z} {k} {o} {a} {b} w e r l =
     let K : k ≡ 2 * h .pairs = omega (arith, r .upto) in

@@ -3,7 +3,7 @@ use mathlib.Core.Path.{_≡_, refl, sym, ap, _∙_}
 use mathlib.Core.Bool.{Bool, true, false, not, cond}
 use mathlib.Core.List.{List}
 use mathlib.Core.Option.{Option, none, some}
-use Prim.Native.Nat.{ℕ, _*_, _≤_, _<_}
+use Prim.Native.Nat.{ℕ, _≤_, _<_}
 use native.Mathlib.Omega.{arith}
 use borrow.Author.Tests.{eq-eqb, ne-eqb, not-true, not-false}
 use lib.Ieee as Ieee
@@ -11,17 +11,16 @@ use lib.Ieee.{Float, nan}
 use Rattle.definition.specs.Number.{plus, over, zero64}
 use Rattle.definition.specs.Vector.{tab, word, difference, allFinite}
 use Rattle.definition.specs.Problem.{Bounds}
-use Rattle.definition.specs.Solve.{Matrix, solve}
-use Rattle.definition.specs.Compact.{Compact, count, product, paddedRows}
-use Rattle.definition.specs.Geometry as Geometry
-use Rattle.definition.specs.Geometry.{free, anyFree, correction, weightedSteps, stepsWithPairs, shareOf, moved, primalMinimize}
+use Rattle.definition.specs.Solve.{Matrix}
+use Rattle.definition.specs.Compact.{Compact, count, product}
+use Rattle.definition.specs.Geometry.{free, correction, weightedSteps, stepsWithPairs, stepsOf, moved, movedBy, onFree, primalMinimize}
 use Rattle.area.specs.Area.{Vecs, upd, rowwise, given, copyOf, differenceOf, ScratchOnly, X, G, Lower, Upper, Displacement, Cauchy, Target, ProductD, ProductZ, Step}
 use Rattle.area.proofs.Laws.{scratch-refl, scratch-trans, scratch-upd}
 use Rattle.compact.specs.declared.Shape.{Shape}
 use Rattle.compact.specs.State.{compactOf, Modelled, Multiplied}
 use Rattle.compact.proofs.Laws.{tab-get, tab-same, pairs-count}
 use Rattle.compact.proofs.Models.{compact-kept, compact-upd, modelled-kept, modelled-upd}
-use Rattle.subspace.specs.State.{plainIn, weightedIn, movedIn, boundsOf, reducedOf, rightOf, productOf, residualFrom, residualOf, stepsOf, movedBy, onFree, minimizeOf, Makes}
+use Rattle.subspace.specs.State.{plainIn, weightedIn, movedIn, boundsOf, anyFreeAt, weightsAt, productAt, residualFrom, residualAt, correctionsAt, stepsAt, shareAt, movedAt, movedByAt, onFreeAt, minimumAt, Makes}
 
 scratch-by : {a b : Vecs} (p : ℕ) (x : List Float) → 8 ≤ p → p < 16 → b ≡ upd a p x → ScratchOnly a b
 scratch-by p x l h e = rw e (scratch-upd p x l h scratch-refl)
@@ -43,7 +42,7 @@ has ok v e t = ap (λ (t : Bool). given t v) (sym (not-false ok t)) ∙ e
 -- ---- the target, from the steps
 
 pub moves : (n : ℕ) (a b : Vecs) (alpha : Float) (ok : Bool) → b ≡ rowwise n Target (λ (i : ℕ). movedIn alpha) a → ok ≡ allFinite n (b Target)
-    → Makes Target (moved n (boundsOf a) (a Cauchy) (a Step) alpha) a ok b
+    → Makes Target (movedAt n a alpha) a ok b
 unfolding rowwise moved
 moves n a b alpha ok e f =
     let x = tab n (λ (i : ℕ). movedIn alpha (λ (q : ℕ). word (a q) i)) in
@@ -55,21 +54,21 @@ moves n a b alpha ok e f =
       kept = scratch-by Target x (omega arith) (omega arith) e;
     }
 
-pub no-move : (n : ℕ) (a : Vecs) (t : Bool) → t ≡ allFinite n (a Step) → not t ≡ true → Makes Target (movedBy n a) a false a
+pub no-move : (n : ℕ) (a : Vecs) (t : Bool) → t ≡ allFinite n (a Step) → not t ≡ true → Makes Target (movedByAt n a) a false a
 no-move n a t e d = record { is = rw (sym e ∙ not-true t d); cauchy = refl; kept = scratch-refl }
 
-pub a-move : (n : ℕ) (a b : Vecs) (t : Bool) (alpha : Float) (ok : Bool) → t ≡ allFinite n (a Step) → not t ≡ false → alpha ≡ shareOf n (boundsOf a) (a Cauchy) (a Step)
-    → Makes Target (moved n (boundsOf a) (a Cauchy) (a Step) alpha) a ok b → Makes Target (movedBy n a) a ok b
-a-move n a b t alpha ok e d s m = makes-as (rw (sym e ∙ not-false t d) (ap (moved n (boundsOf a) (a Cauchy) (a Step)) s)) m
+pub a-move : (n : ℕ) (a b : Vecs) (t : Bool) (alpha : Float) (ok : Bool) → t ≡ allFinite n (a Step) → not t ≡ false → alpha ≡ shareAt n a
+    → Makes Target (movedAt n a alpha) a ok b → Makes Target (movedByAt n a) a ok b
+a-move n a b t alpha ok e d s m = makes-as (rw (sym e ∙ not-false t d) (ap (movedAt n a) s)) m
 
 -- ---- the residual
 
-pub differenced : {h : Shape} {theta : Float} {m : Matrix} {a b : Vecs} → b ≡ differenceOf (h .n) Displacement Cauchy X a → Modelled h theta m a → Modelled h theta m b
+pub differenced : {h : Shape} {theta : Float} {m : Matrix} {a b : Vecs} (q r : ℕ) → b ≡ differenceOf (h .n) Displacement q r a → Modelled h theta m a → Modelled h theta m b
 unfolding differenceOf
-differenced {h} {a = a} e r = rw e (modelled-upd Displacement (difference (h .n) (a Cauchy) (a X)) (omega arith) r)
+differenced {h} {a = a} q r e k = rw e (modelled-upd Displacement (difference (h .n) (a q) (a r)) (omega arith) k)
 
 product-is : (h : Shape) (theta : Float) (a b d : Vecs) (ok : Bool) → b ≡ differenceOf (h .n) Displacement Cauchy X a → Multiplied h theta ProductZ Displacement b ok d
-    → given ok (d ProductZ) ≡ productOf h theta a
+    → given ok (d ProductZ) ≡ productAt h theta a
 unfolding differenceOf
 product-is h theta a b d ok e m =
     let same : compactOf h theta b ≡ compactOf h theta a = ap (compactOf h theta) e ∙ compact-upd h theta a Displacement (difference (h .n) (a Cauchy) (a X)) (omega arith) in
@@ -88,7 +87,7 @@ after-product h theta a b d ok e m = (
 )
 
 pub no-residual : (h : Shape) (theta : Float) (a b d : Vecs) (ok : Bool) → b ≡ differenceOf (h .n) Displacement Cauchy X a
-    → Multiplied h theta ProductZ Displacement b ok d → not ok ≡ true → Makes ProductD (residualOf h theta a) a false d
+    → Multiplied h theta ProductZ Displacement b ok d → not ok ≡ true → Makes ProductD (residualAt h theta a) a false d
 no-residual h theta a b d ok e m t =
     let k = after-product h theta a b d ok e m in
     record {
@@ -99,7 +98,7 @@ no-residual h theta a b d ok e m t =
 
 pub a-residual : (h : Shape) (theta : Float) (a b d r : Vecs) (ok : Bool) → b ≡ differenceOf (h .n) Displacement Cauchy X a
     → Multiplied h theta ProductZ Displacement b ok d → not ok ≡ false → r ≡ rowwise (h .n) ProductD (λ (i : ℕ) w. plus (w ProductZ) (w G)) d
-    → Makes ProductD (residualOf h theta a) a true r
+    → Makes ProductD (residualAt h theta a) a true r
 unfolding rowwise
 a-residual h theta a b d r ok e m t f =
     let k = after-product h theta a b d ok e m in
@@ -114,7 +113,7 @@ a-residual h theta a b d r ok e m t f =
 
 -- ---- the steps
 
-pub plain : (h : Shape) (theta : Float) (a b : Vecs) → h .pairs ≡ 0 → b ≡ rowwise (h .n) Step (λ (i : ℕ). plainIn theta) a → Makes Step (stepsOf h theta a) a true b
+pub plain : (h : Shape) (theta : Float) (a b : Vecs) → h .pairs ≡ 0 → b ≡ rowwise (h .n) Step (λ (i : ℕ). plainIn theta) a → Makes Step (stepsAt h theta a) a true b
 unfolding rowwise
 plain h theta a b z e = record {
   is = rw (pairs-count h a, eq-eqb (h .pairs) 0 z) (λ k. some (e k Step));
@@ -122,28 +121,25 @@ plain h theta a b z e = record {
   kept = scratch-by Step (tab (h .n) (λ (i : ℕ). plainIn theta (λ (q : ℕ). word (a q) i))) (omega arith) (omega arith) e;
 }
 
-abbrev weightedOf : Shape → Float → Vecs → Option (List Float) → Option (List Float)
-weightedOf h theta a w = weightedSteps (h .n) (boundsOf a) (a Cauchy) (compactOf h theta a) (a ProductD) w
+abbrev weightedAt : Shape → Float → Vecs → Option (List Float) → Option (List Float)
+weightedAt h theta a w = weightedSteps (h .n) (boundsOf a) (a Cauchy) (compactOf h theta a) (a ProductD) w
 
--- with pairs: the steps are those of the reduced system's solution
-pub by-weights : (h : Shape) (theta : Float) (a : Vecs) (m : Matrix) (y : List Float) (w : Option (List Float)) → (h .pairs ≡ 0 → ⊥)
-    → m ≡ paddedRows (compactOf h theta a) (reducedOf h theta a) → y ≡ rightOf h theta a → w ≡ solve (2 * h .pairs) m y → weightedOf h theta a w ≡ stepsOf h theta a
+-- with pairs, the steps are those of the weights
+pub by-weights : (h : Shape) (theta : Float) (a : Vecs) (w : Option (List Float)) → (h .pairs ≡ 0 → ⊥) → w ≡ weightsAt h theta a → weightedAt h theta a w ≡ stepsAt h theta a
 unfolding stepsWithPairs
-by-weights h theta a m y w d e f g =
-    rw (ne-eqb (count (compactOf h theta a)) 0 (λ z. d (sym (pairs-count h a) ∙ z)))
-    (ap (weightedOf h theta a) (g ∙ (λ k. solve (2 * sym (pairs-count h a) k) (e k) (f k))))
+by-weights h theta a w d e = rw (ne-eqb (count (compactOf h theta a)) 0 (λ z. d (sym (pairs-count h a) ∙ z))) (ap (weightedAt h theta a) e)
 
-pub no-steps : (h : Shape) (theta : Float) (a : Vecs) (ok : Bool) (z : List Float) → weightedOf h theta a (given ok z) ≡ stepsOf h theta a → not ok ≡ true
-    → Makes Step (stepsOf h theta a) a false a
+pub no-steps : (h : Shape) (theta : Float) (a : Vecs) (ok : Bool) (z : List Float) → weightedAt h theta a (given ok z) ≡ stepsAt h theta a → not ok ≡ true
+    → Makes Step (stepsAt h theta a) a false a
 unfolding weightedSteps
 no-steps h theta a ok z e t = record {
-  is = ap (λ (t : Bool). weightedOf h theta a (given t z)) (sym (not-true ok t)) ∙ e;
+  is = ap (λ (t : Bool). weightedAt h theta a (given t z)) (sym (not-true ok t)) ∙ e;
   cauchy = refl;
   kept = scratch-refl;
 }
 
-pub with-steps : (h : Shape) (theta : Float) (a b d : Vecs) (ok : Bool) (z : List Float) → weightedOf h theta a (given ok z) ≡ stepsOf h theta a → not ok ≡ false
-    → b ≡ upd a Step (tab (h .n) (correction (compactOf h theta a) z)) → d ≡ rowwise (h .n) Step (λ (i : ℕ). weightedIn theta) b → Makes Step (stepsOf h theta a) a true d
+pub with-steps : (h : Shape) (theta : Float) (a b d : Vecs) (ok : Bool) (z : List Float) → weightedAt h theta a (given ok z) ≡ stepsAt h theta a → not ok ≡ false
+    → b ≡ upd a Step (correctionsAt h theta a z) → d ≡ rowwise (h .n) Step (λ (i : ℕ). weightedIn theta) b → Makes Step (stepsAt h theta a) a true d
 unfolding weightedSteps rowwise
 with-steps h theta a b d ok z e t f g =
     let c = correction (compactOf h theta a) z in
@@ -154,7 +150,7 @@ with-steps h theta a b d ok z e t f g =
           ∙ ap some
           (tab-same (h .n) _ _
           (λ i l k. cond (free (boundsOf a) (a Cauchy) i) (over (Ieee.neg (plus (word (a ProductD) i) (over (tab-get (h .n) c i nan l k) theta))) theta) zero64))
-          ∙ ap (λ (t : Bool). weightedOf h theta a (given t z)) (sym (not-false ok t))
+          ∙ ap (λ (t : Bool). weightedAt h theta a (given t z)) (sym (not-false ok t))
           ∙ e;
       cauchy = (λ k. g k Cauchy) ∙ (λ k. f k Cauchy);
       kept =
@@ -171,46 +167,46 @@ bounds-kept m = λ k. record { lower = m .kept .low Lower (omega arith) k; upper
 pub model-kept : {p : ℕ} {F : Option (List Float)} {h : Shape} {theta : Float} {m : Matrix} {a b : Vecs} {ok : Bool} → Makes p F a ok b → Modelled h theta m a → Modelled h theta m b
 model-kept {b = b} k r = modelled-kept b (k .kept .high) r
 
-none-free : (n : ℕ) (b : Bounds) (p : List Float) (c : Compact) (g : List Float) (x : Option (List Float)) → none ≡ residualFrom n g x → none ≡ Geometry.onFree n b p c g x
+none-free : (n : ℕ) (b : Bounds) (p : List Float) (c : Compact) (g : List Float) (x : Option (List Float)) → none ≡ residualFrom n g x → none ≡ onFree n b p c g x
 none-free n b p c g none e = refl
 none-free n b p c g (some bz) e = cc
 
 some-free : (n : ℕ) (b : Bounds) (p : List Float) (c : Compact) (g r : List Float) (x : Option (List Float)) → some r ≡ residualFrom n g x
-    → Geometry.movedBy n b p (Geometry.stepsOf n b p c r) ≡ Geometry.onFree n b p c g x
+    → movedBy n b p (stepsOf n b p c r) ≡ onFree n b p c g x
 some-free n b p c g r none e = cc
 some-free n b p c g r (some bz) e =
     let q : r ≡ tab n (λ i. plus (word bz i) (word g i)) = cc in
-    ap (λ (r : List Float). Geometry.movedBy n b p (Geometry.stepsOf n b p c r)) q
+    ap (λ (r : List Float). movedBy n b p (stepsOf n b p c r)) q
 
-from-residual : (h : Shape) (theta : Float) (a b : Vecs) (ok : Bool) → Makes ProductD (residualOf h theta a) a ok b → not ok ≡ false
-    → Geometry.movedBy (h .n) (boundsOf b) (b Cauchy) (stepsOf h theta b) ≡ onFree h theta a
+from-residual : (h : Shape) (theta : Float) (a b : Vecs) (ok : Bool) → Makes ProductD (residualAt h theta a) a ok b → not ok ≡ false
+    → movedBy (h .n) (boundsOf b) (b Cauchy) (stepsAt h theta b) ≡ onFreeAt h theta a
 from-residual h theta a b ok m t =
-    (λ k. Geometry.movedBy (h .n) (bounds-kept m k) (m .cauchy k)
-    (Geometry.stepsOf (h .n) (bounds-kept m k) (m .cauchy k) (compact-kept h theta a b (m .kept .high) k) (b ProductD)))
-    ∙ some-free (h .n) (boundsOf a) (a Cauchy) (compactOf h theta a) (a G) (b ProductD) (productOf h theta a) (has ok (b ProductD) (m .is) t)
+    (λ k. movedBy (h .n) (bounds-kept m k) (m .cauchy k)
+    (stepsOf (h .n) (bounds-kept m k) (m .cauchy k) (compact-kept h theta a b (m .kept .high) k) (b ProductD)))
+    ∙ some-free (h .n) (boundsOf a) (a Cauchy) (compactOf h theta a) (a G) (b ProductD) (productAt h theta a) (has ok (b ProductD) (m .is) t)
 
-pub without-residual : (h : Shape) (theta : Float) (a b : Vecs) (ok : Bool) → Makes ProductD (residualOf h theta a) a ok b → not ok ≡ true → Makes Target (onFree h theta a) a false b
+pub without-residual : (h : Shape) (theta : Float) (a b : Vecs) (ok : Bool) → Makes ProductD (residualAt h theta a) a ok b → not ok ≡ true → Makes Target (onFreeAt h theta a) a false b
 without-residual h theta a b ok m t = record {
-  is = none-free (h .n) (boundsOf a) (a Cauchy) (compactOf h theta a) (a G) (productOf h theta a) (lacks ok (b ProductD) (m .is) t);
+  is = none-free (h .n) (boundsOf a) (a Cauchy) (compactOf h theta a) (a G) (productAt h theta a) (lacks ok (b ProductD) (m .is) t);
   cauchy = m .cauchy;
   kept = m .kept;
 }
 
-pub without-steps : (h : Shape) (theta : Float) (a b d : Vecs) (ok made : Bool) → Makes ProductD (residualOf h theta a) a ok b → not ok ≡ false
-    → Makes Step (stepsOf h theta b) b made d → not made ≡ true → Makes Target (onFree h theta a) a false d
+pub without-steps : (h : Shape) (theta : Float) (a b d : Vecs) (ok made : Bool) → Makes ProductD (residualAt h theta a) a ok b → not ok ≡ false
+    → Makes Step (stepsAt h theta b) b made d → not made ≡ true → Makes Target (onFreeAt h theta a) a false d
 without-steps h theta a b d ok made m t s u = record {
-  is = ap (Geometry.movedBy (h .n) (boundsOf b) (b Cauchy)) (lacks made (d Step) (s .is) u) ∙ from-residual h theta a b ok m t;
+  is = ap (movedBy (h .n) (boundsOf b) (b Cauchy)) (lacks made (d Step) (s .is) u) ∙ from-residual h theta a b ok m t;
   cauchy = s .cauchy ∙ m .cauchy;
   kept = scratch-trans (m .kept) (s .kept);
 }
 
-pub targets : (h : Shape) (theta : Float) (a b d e : Vecs) (ok made r : Bool) → Makes ProductD (residualOf h theta a) a ok b → not ok ≡ false
-    → Makes Step (stepsOf h theta b) b made d → not made ≡ false → Makes Target (movedBy (h .n) d) d r e → Makes Target (onFree h theta a) a r e
+pub targets : (h : Shape) (theta : Float) (a b d e : Vecs) (ok made r : Bool) → Makes ProductD (residualAt h theta a) a ok b → not ok ≡ false
+    → Makes Step (stepsAt h theta b) b made d → not made ≡ false → Makes Target (movedByAt (h .n) d) d r e → Makes Target (onFreeAt h theta a) a r e
 targets h theta a b d e ok made r m t s u v = record {
   is =
       v .is
-      ∙ (λ k. Geometry.movedBy (h .n) (bounds-kept s k) (s .cauchy k) (some (d Step)))
-      ∙ ap (Geometry.movedBy (h .n) (boundsOf b) (b Cauchy)) (has made (d Step) (s .is) u)
+      ∙ (λ k. movedBy (h .n) (bounds-kept s k) (s .cauchy k) (some (d Step)))
+      ∙ ap (movedBy (h .n) (boundsOf b) (b Cauchy)) (has made (d Step) (s .is) u)
       ∙ from-residual h theta a b ok m t;
   cauchy = v .cauchy ∙ s .cauchy ∙ m .cauchy;
   kept = scratch-trans (m .kept) (scratch-trans (s .kept) (v .kept));
@@ -218,13 +214,13 @@ targets h theta a b d e ok made r m t s u v = record {
 
 -- ---- the minimum
 
-pub minimum-free : (h : Shape) (theta : Float) (a b : Vecs) (t ok : Bool) → t ≡ anyFree (h .n) (boundsOf a) (a Cauchy) → t ≡ true → Makes Target (onFree h theta a) a ok b
-    → Makes Target (minimizeOf h theta a) a ok b
+pub minimum-free : (h : Shape) (theta : Float) (a b : Vecs) (t ok : Bool) → t ≡ anyFreeAt (h .n) a → t ≡ true → Makes Target (onFreeAt h theta a) a ok b
+    → Makes Target (minimumAt h theta a) a ok b
 unfolding primalMinimize
 minimum-free h theta a b t ok e d m = makes-as (rw (sym e ∙ d)) m
 
-pub minimum-fixed : (h : Shape) (theta : Float) (a b : Vecs) (t : Bool) → t ≡ anyFree (h .n) (boundsOf a) (a Cauchy) → t ≡ false → b ≡ copyOf Target Cauchy a
-    → Makes Target (minimizeOf h theta a) a true b
+pub minimum-fixed : (h : Shape) (theta : Float) (a b : Vecs) (t : Bool) → t ≡ anyFreeAt (h .n) a → t ≡ false → b ≡ copyOf Target Cauchy a
+    → Makes Target (minimumAt h theta a) a true b
 unfolding primalMinimize
 minimum-fixed h theta a b t e d f = record {
   is = rw (sym e ∙ d) (λ k. some (f k Target));

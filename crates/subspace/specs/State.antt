@@ -1,5 +1,5 @@
 -- The minimum over the free coordinates of the Cauchy point, and the direction to the chosen end, read off the area.
-use Prim.Native.Nat.{ℕ}
+use Prim.Native.Nat.{ℕ, _*_}
 use mathlib.Core.Path.{_≡_}
 use mathlib.Core.Bool.{Bool, cond, _&&_}
 use mathlib.Core.List.{List}
@@ -9,8 +9,9 @@ use lib.Ieee.{Float}
 use Rattle.definition.specs.Number.{plus, minus, times, over, min, clamp, zero64}
 use Rattle.definition.specs.Vector.{tab, word, difference}
 use Rattle.definition.specs.Problem.{Bounds}
-use Rattle.definition.specs.Compact.{product}
-use Rattle.definition.specs.Geometry as Geometry
+use Rattle.definition.specs.Solve.{solve}
+use Rattle.definition.specs.Compact.{count, paddedRows, product}
+use Rattle.definition.specs.Geometry.{anyFree, freeSum, reducedEntry, reducedRight, correction, stepsOf, shareOf, moved, movedBy, onFree, primalMinimize}
 use Rattle.definition.specs.Machine.{state}
 use Rattle.definition.specs.Driver.{Ends, chosenEnd}
 use Rattle.area.specs.Area.{Vecs, upd, given, ScratchOnly, X, G, Lower, Upper, Direction, Cauchy, Target, ProductD, Step}
@@ -50,42 +51,61 @@ movedIn alpha w = cond (freeIn w) (clamp (plus (w Cauchy) (times alpha (w Step))
 abbrev pub headIn : Float → (ℕ → Float) → Float
 headIn slope w = minus (cond (Ieee.le zero64 slope) (w Cauchy) (w Target)) (w X)
 
--- ---- from the vectors
+-- ---- the definition's, at the vectors of the area
 
 abbrev pub boundsOf : Vecs → Bounds
 boundsOf v = record { lower = v Lower; upper = v Upper }
 
-abbrev pub freeSumOf : ℕ → Vecs → ℕ → ℕ → Float
-freeSumOf n v p q = Geometry.freeSum n (boundsOf v) (v Cauchy) (λ k. times (word (v p) k) (word (v q) k))
+abbrev pub anyFreeAt : ℕ → Vecs → Bool
+anyFreeAt n v = anyFree n (boundsOf v) (v Cauchy)
 
-abbrev pub reducedOf : Shape → Float → Vecs → ℕ → ℕ → Float
-reducedOf h theta v i j = Geometry.reducedEntry (h .n) (boundsOf v) (v Cauchy) (compactOf h theta v) i j
+-- the product of vectors p and q over the free coordinates
+abbrev pub freeSumAt : ℕ → Vecs → ℕ → ℕ → Float
+freeSumAt n v p q = freeSum n (boundsOf v) (v Cauchy) (λ k. times (word (v p) k) (word (v q) k))
 
-abbrev pub rightOf : Shape → Float → Vecs → List Float
-rightOf h theta v = Geometry.reducedRight (h .n) (boundsOf v) (v Cauchy) (compactOf h theta v) (v ProductD)
+-- the reduced system: its entries, its right side, its solution
+abbrev pub reducedAt : Shape → Float → Vecs → ℕ → ℕ → Float
+reducedAt h theta v i j = reducedEntry (h .n) (boundsOf v) (v Cauchy) (compactOf h theta v) i j
+
+abbrev pub rightAt : Shape → Float → Vecs → List Float
+rightAt h theta v = reducedRight (h .n) (boundsOf v) (v Cauchy) (compactOf h theta v) (v ProductD)
+
+abbrev pub weightsAt : Shape → Float → Vecs → Option (List Float)
+weightsAt h theta v = solve (2 * count (compactOf h theta v)) (paddedRows (compactOf h theta v) (reducedAt h theta v)) (rightAt h theta v)
 
 -- the product with the displacement, and the residual from it
-abbrev pub productOf : Shape → Float → Vecs → Option (List Float)
-productOf h theta v = product (h .n) (compactOf h theta v) (difference (h .n) (v Cauchy) (v X))
+abbrev pub productAt : Shape → Float → Vecs → Option (List Float)
+productAt h theta v = product (h .n) (compactOf h theta v) (difference (h .n) (v Cauchy) (v X))
 
 abbrev pub residualFrom : ℕ → List Float → Option (List Float) → Option (List Float)
 residualFrom n g none = none
 residualFrom n g (some bz) = some (tab n (λ i. plus (word bz i) (word g i)))
 
-abbrev pub residualOf : Shape → Float → Vecs → Option (List Float)
-residualOf h theta v = residualFrom (h .n) (v G) (productOf h theta v)
+abbrev pub residualAt : Shape → Float → Vecs → Option (List Float)
+residualAt h theta v = residualFrom (h .n) (v G) (productAt h theta v)
 
-abbrev pub stepsOf : Shape → Float → Vecs → Option (List Float)
-stepsOf h theta v = Geometry.stepsOf (h .n) (boundsOf v) (v Cauchy) (compactOf h theta v) (v ProductD)
+abbrev pub correctionsAt : Shape → Float → Vecs → List Float → List Float
+correctionsAt h theta v z = tab (h .n) (correction (compactOf h theta v) z)
 
-abbrev pub movedBy : ℕ → Vecs → Option (List Float)
-movedBy n v = Geometry.movedBy n (boundsOf v) (v Cauchy) (some (v Step))
+-- the steps, and how much of them the bounds leave
+abbrev pub stepsAt : Shape → Float → Vecs → Option (List Float)
+stepsAt h theta v = stepsOf (h .n) (boundsOf v) (v Cauchy) (compactOf h theta v) (v ProductD)
 
-abbrev pub onFree : Shape → Float → Vecs → Option (List Float)
-onFree h theta v = Geometry.onFree (h .n) (boundsOf v) (v Cauchy) (compactOf h theta v) (v G) (productOf h theta v)
+abbrev pub shareAt : ℕ → Vecs → Float
+shareAt n v = shareOf n (boundsOf v) (v Cauchy) (v Step)
 
-abbrev pub minimizeOf : Shape → Float → Vecs → Option (List Float)
-minimizeOf h theta v = Geometry.primalMinimize (h .n) (boundsOf v) (compactOf h theta v) (v X) (v G) (v Cauchy)
+-- the target by a share of the steps, by the largest, and with the residual before it
+abbrev pub movedAt : ℕ → Vecs → Float → Option (List Float)
+movedAt n v alpha = moved n (boundsOf v) (v Cauchy) (v Step) alpha
+
+abbrev pub movedByAt : ℕ → Vecs → Option (List Float)
+movedByAt n v = movedBy n (boundsOf v) (v Cauchy) (some (v Step))
+
+abbrev pub onFreeAt : Shape → Float → Vecs → Option (List Float)
+onFreeAt h theta v = onFree (h .n) (boundsOf v) (v Cauchy) (compactOf h theta v) (v G) (productAt h theta v)
+
+abbrev pub minimumAt : Shape → Float → Vecs → Option (List Float)
+minimumAt h theta v = primalMinimize (h .n) (boundsOf v) (compactOf h theta v) (v X) (v G) (v Cauchy)
 
 -- vector p of b, where ok says that there is one; the Cauchy point is kept, and only scratch is touched
 pub record Makes (p : ℕ) (F : Option (List Float)) (a : Vecs) (ok : Bool) (b : Vecs) : Type 0 where

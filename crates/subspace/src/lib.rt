@@ -6,13 +6,12 @@ ghost use lib.ListN.{length};
 ghost use lib.Ieee as Ieee;
 ghost use lib.Ieee.{Float};
 ghost use Rattle.definition.specs.Number.{plus, times, zero64};
-ghost use Rattle.definition.specs.Vector.{tab};
 ghost use Rattle.definition.specs.Compact.{padded, paddedRows};
-ghost use Rattle.definition.specs.Geometry.{anyFree, correction, shareOf, moved as movedOf};
-ghost use Rattle.area.specs.Area.{view, upd, wordsAt, rowwise, Cauchy, Target, ProductD, ProductZ, Step, G};
+ghost use Rattle.area.specs.Area.{view, upd, wordsAt, rowwise, Target, ProductD, ProductZ, Step, G};
+ghost use Rattle.solve.specs.Answers.{answerOf};
 ghost use Rattle.compact.specs.State.{compactOf, Sound, Laid, Modelled};
-ghost use Rattle.subspace.specs.State.{freeIn, freeTerm, plainIn, weightedIn, shortenedIn, shareIn, movedIn, headIn, boundsOf};
-ghost use Rattle.subspace.specs.State.{freeSumOf, reducedOf, rightOf, residualOf, stepsOf, movedBy, onFree, minimizeOf, Makes, Minimizes, headed};
+ghost use Rattle.subspace.specs.State.{freeIn, freeTerm, plainIn, weightedIn, shortenedIn, shareIn, movedIn, headIn, headed, Makes, Minimizes};
+ghost use Rattle.subspace.specs.State.{anyFreeAt, freeSumAt, reducedAt, rightAt, weightsAt, residualAt, correctionsAt, stepsAt, shareAt, movedAt, movedByAt, onFreeAt, minimumAt};
 
 // ---- free coordinates
 
@@ -31,7 +30,7 @@ fn is_free(area: &[f64], n: usize, i: usize) -> bool
 // Whether any coordinate of the Cauchy point is free.
 fn any_free(area: &[f64], n: usize) -> bool
     requires { ⌜ 16 * n ≤ length (now area) ⌝ }
-    ensures { λ r. ⌜ r ≡ anyFree n (boundsOf (view (now (area .entry)) n)) (view (now (area .entry)) n Cauchy) ⌝ }
+    ensures { λ r. ⌜ r ≡ anyFreeAt n (view (now (area .entry)) n) ⌝ }
 {
     let mut i = 0;
     while i < n {
@@ -57,7 +56,7 @@ fn free_term(area: &[f64], n: usize, p: usize, q: usize, i: usize, s: f64) -> f6
 // The product of vectors p and q over the free coordinates, from the left and from -0.0.
 fn free_sum(area: &[f64], n: usize, p: usize, q: usize) -> f64
     requires { ⌜ (16 * n ≤ length (now area)) × (p * n + n ≤ length (now area)) × (q * n + n ≤ length (now area)) ⌝ }
-    ensures { λ r. ⌜ r ≡ freeSumOf n (view (now (area .entry)) n) p q ⌝ }
+    ensures { λ r. ⌜ r ≡ freeSumAt n (view (now (area .entry)) n) p q ⌝ }
 {
     let mut s = float::NEG_ZERO;
     let mut i = 0;
@@ -85,7 +84,7 @@ fn add_gradient(area: &mut [f64], n: usize)
 // The residual in its vector; false where there is no product with the displacement.
 fn residual(area: &mut [f64], h: compact::Shape, theta: f64, block: [[f64; 32]; 32]) -> bool
     requires { ⌜ Sound h (length (now area)) × Modelled h theta block (view (now area) (h .n)) ⌝ }
-    ensures { λ r. ⌜ Makes ProductD (residualOf h theta (view (now (area .entry)) (h .n))) (view (now (area .entry)) (h .n)) r (view (now (area .exit)) (h .n)) ⌝ }
+    ensures { λ r. ⌜ Makes ProductD (residualAt h theta (view (now (area .entry)) (h .n))) (view (now (area .entry)) (h .n)) r (view (now (area .exit)) (h .n)) ⌝ }
 {
     area::difference(area, h.n, area::DISPLACEMENT, area::CAUCHY, area::X);
     let found = compact::product(area, h, theta, block, area::PRODUCT_Z, area::DISPLACEMENT);
@@ -108,7 +107,7 @@ fn reduced_entry(
     j: usize,
 ) -> f64
     requires { ⌜ Sound h (length (now area)) × Modelled h theta (now block) (view (now area) (h .n)) × (i < 2 * h .pairs) × (j < 2 * h .pairs) ⌝ }
-    ensures { λ r. ⌜ r ≡ reducedOf h theta (view (now (area .entry)) (h .n)) i j ⌝ }
+    ensures { λ r. ⌜ r ≡ reducedAt h theta (view (now (area .entry)) (h .n)) i j ⌝ }
 {
     let columns = 16 + 2 * h.m;
     let s = free_sum(area, h.n, columns + i, columns + j);
@@ -124,7 +123,7 @@ fn reduced_row(
     i: usize,
 ) -> [f64; 32]
     requires { ⌜ Sound h (length (now area)) × Modelled h theta (now block) (view (now area) (h .n)) × (i < 2 * h .pairs) ⌝ }
-    ensures { λ r. ⌜ r ≡ padded zero64 (2 * h .pairs) (reducedOf h theta (view (now (area .entry)) (h .n)) i) ⌝ }
+    ensures { λ r. ⌜ r ≡ padded zero64 (2 * h .pairs) (reducedAt h theta (view (now (area .entry)) (h .n)) i) ⌝ }
 {
     let size = 2 * h.pairs;
     let mut r = compact::zeros();
@@ -139,7 +138,7 @@ fn reduced_row(
 // The reduced matrix, 2 rows and columns for each pair.
 fn reduced(area: &[f64], h: compact::Shape, theta: f64, block: &[[f64; 32]; 32]) -> [[f64; 32]; 32]
     requires { ⌜ Sound h (length (now area)) × Modelled h theta (now block) (view (now area) (h .n)) ⌝ }
-    ensures { λ r. ⌜ r ≡ paddedRows (compactOf h theta (view (now (area .entry)) (h .n))) (reducedOf h theta (view (now (area .entry)) (h .n))) ⌝ }
+    ensures { λ r. ⌜ r ≡ paddedRows (compactOf h theta (view (now (area .entry)) (h .n))) (reducedAt h theta (view (now (area .entry)) (h .n))) ⌝ }
 {
     let size = 2 * h.pairs;
     let mut b = compact::zero_rows();
@@ -155,7 +154,7 @@ fn reduced(area: &[f64], h: compact::Shape, theta: f64, block: &[[f64; 32]; 32])
 // The columns' products with the residual over the free coordinates.
 fn reduced_right(area: &[f64], h: compact::Shape, theta: f64) -> [f64; 32]
     requires { ⌜ Sound h (length (now area)) × Laid h theta (view (now area) (h .n)) ⌝ }
-    ensures { λ r. ⌜ r ≡ rightOf h theta (view (now (area .entry)) (h .n)) ⌝ }
+    ensures { λ r. ⌜ r ≡ rightAt h theta (view (now (area .entry)) (h .n)) ⌝ }
 {
     let size = 2 * h.pairs;
     let mut r = compact::zeros();
@@ -165,6 +164,16 @@ fn reduced_right(area: &[f64], h: compact::Shape, theta: f64) -> [f64; 32]
         i += 1;
     }
     r
+}
+
+// The weights of the columns that solve the reduced system, where there are any.
+fn weights(area: &[f64], h: compact::Shape, theta: f64, block: &[[f64; 32]; 32]) -> solve::Answer
+    requires { ⌜ Sound h (length (now area)) × Modelled h theta (now block) (view (now area) (h .n)) ⌝ }
+    ensures { λ r. ⌜ answerOf r ≡ weightsAt h theta (view (now (area .entry)) (h .n)) ⌝ }
+{
+    let a = reduced(area, h, theta, block);
+    let y = reduced_right(area, h, theta);
+    solve::solve(2 * h.pairs, a, y)
 }
 
 // ---- the step over the free coordinates
@@ -184,7 +193,7 @@ fn add_column(area: &mut [f64], n: usize, q: usize, w: f64)
 // The step becomes what the columns with the weights z add to the residual.
 fn corrections(area: &mut [f64], h: compact::Shape, theta: f64, z: [f64; 32])
     requires { ⌜ Sound h (length (now area)) × Laid h theta (view (now area) (h .n)) ⌝ }
-    ensures { λ _. ⌜ view (now (area .exit)) (h .n) ≡ upd (view (now (area .entry)) (h .n)) Step (tab (h .n) (correction (compactOf h theta (view (now (area .entry)) (h .n))) z)) ⌝ }
+    ensures { λ _. ⌜ view (now (area .exit)) (h .n) ≡ upd (view (now (area .entry)) (h .n)) Step (correctionsAt h theta (view (now (area .entry)) (h .n)) z) ⌝ }
 {
     let size = 2 * h.pairs;
     area::fill(area, h.n, area::STEP, float::NEG_ZERO);
@@ -246,15 +255,13 @@ fn weighted_steps(area: &mut [f64], n: usize, theta: f64)
 // The steps, by the reduced system's weights where there are pairs.
 fn steps(area: &mut [f64], h: compact::Shape, theta: f64, block: &[[f64; 32]; 32]) -> bool
     requires { ⌜ Sound h (length (now area)) × Modelled h theta (now block) (view (now area) (h .n)) ⌝ }
-    ensures { λ r. ⌜ Makes Step (stepsOf h theta (view (now (area .entry)) (h .n))) (view (now (area .entry)) (h .n)) r (view (now (area .exit)) (h .n)) ⌝ }
+    ensures { λ r. ⌜ Makes Step (stepsAt h theta (view (now (area .entry)) (h .n))) (view (now (area .entry)) (h .n)) r (view (now (area .exit)) (h .n)) ⌝ }
 {
     if h.pairs == 0 {
         plain_steps(area, h.n, theta);
         return true;
     }
-    let a = reduced(area, h, theta, block);
-    let y = reduced_right(area, h, theta);
-    let w = solve::solve(2 * h.pairs, a, y);
+    let w = weights(area, h, theta, block);
     if !w.ok {
         return false;
     }
@@ -296,7 +303,7 @@ fn share_at(area: &[f64], n: usize, i: usize, alpha: f64) -> f64
 // The share of the step that keeps every free coordinate within its bounds.
 fn share(area: &[f64], n: usize) -> f64
     requires { ⌜ 16 * n ≤ length (now area) ⌝ }
-    ensures { λ r. ⌜ r ≡ shareOf n (boundsOf (view (now (area .entry)) n)) (view (now (area .entry)) n Cauchy) (view (now (area .entry)) n Step) ⌝ }
+    ensures { λ r. ⌜ r ≡ shareAt n (view (now (area .entry)) n) ⌝ }
 {
     let mut alpha = 1.0;
     let mut i = 0;
@@ -324,7 +331,7 @@ fn moved_at(area: &[f64], n: usize, alpha: f64, i: usize) -> f64
 // The target: the Cauchy point, its free coordinates moved by alpha times the step and brought into the box.
 fn moved(area: &mut [f64], n: usize, alpha: f64) -> bool
     requires { ⌜ 16 * n ≤ length (now area) ⌝ }
-    ensures { λ r. ⌜ Makes Target (movedOf n (boundsOf (view (now (area .entry)) n)) (view (now (area .entry)) n Cauchy) (view (now (area .entry)) n Step) alpha) (view (now (area .entry)) n) r (view (now (area .exit)) n) ⌝ }
+    ensures { λ r. ⌜ Makes Target (movedAt n (view (now (area .entry)) n) alpha) (view (now (area .entry)) n) r (view (now (area .exit)) n) ⌝ }
 {
     let mut i = 0;
     while i < n {
@@ -338,7 +345,7 @@ fn moved(area: &mut [f64], n: usize, alpha: f64) -> bool
 // The target by the share that the bounds leave, where the steps are finite.
 fn moved_by(area: &mut [f64], n: usize) -> bool
     requires { ⌜ 16 * n ≤ length (now area) ⌝ }
-    ensures { λ r. ⌜ Makes Target (movedBy n (view (now (area .entry)) n)) (view (now (area .entry)) n) r (view (now (area .exit)) n) ⌝ }
+    ensures { λ r. ⌜ Makes Target (movedByAt n (view (now (area .entry)) n)) (view (now (area .entry)) n) r (view (now (area .exit)) n) ⌝ }
 {
     if !area::all_finite(area, n, area::STEP) {
         return false;
@@ -350,7 +357,7 @@ fn moved_by(area: &mut [f64], n: usize) -> bool
 // The target where a coordinate is free.
 fn on_free(area: &mut [f64], h: compact::Shape, theta: f64, block: [[f64; 32]; 32]) -> bool
     requires { ⌜ Sound h (length (now area)) × Modelled h theta block (view (now area) (h .n)) ⌝ }
-    ensures { λ r. ⌜ Makes Target (onFree h theta (view (now (area .entry)) (h .n))) (view (now (area .entry)) (h .n)) r (view (now (area .exit)) (h .n)) ⌝ }
+    ensures { λ r. ⌜ Makes Target (onFreeAt h theta (view (now (area .entry)) (h .n))) (view (now (area .entry)) (h .n)) r (view (now (area .exit)) (h .n)) ⌝ }
 {
     let found = residual(area, h, theta, block);
     if !found {
@@ -371,7 +378,7 @@ pub fn primal_minimize(
     block: [[f64; 32]; 32],
 ) -> bool
     requires { ⌜ Sound h (length (now area)) × Modelled h theta block (view (now area) (h .n)) ⌝ }
-    ensures { λ r. ⌜ Minimizes (minimizeOf h theta (view (now (area .entry)) (h .n))) (view (now (area .entry)) (h .n)) r (view (now (area .exit)) (h .n)) ⌝ }
+    ensures { λ r. ⌜ Minimizes (minimumAt h theta (view (now (area .entry)) (h .n))) (view (now (area .entry)) (h .n)) r (view (now (area .exit)) (h .n)) ⌝ }
 {
     if any_free(area, h.n) {
         return on_free(area, h, theta, block);

@@ -25,7 +25,9 @@ add-column-requires c κs =
     (omega (arith, vector-room 15 s (omega arith)), vector-room _ s (omega arith))
 
 loop-again : tie.Need-loop-again Inv-loop μ-loop
-loop-again c = (added-more (c .before .before .before .before .before .before .loop .inv .0) (omega arith) (c .before .before .add-column .ensures), c .before .area2 .given ∙ c .before .before .before .before .before .before .loop .inv .1)
+loop-again c =
+    let r = c .before .before .before .before .before .before .loop .inv in
+    (added-more (r .0) (omega arith) (c .before .before .add-column .ensures), c .before .area2 .given ∙ r .1)
 
 returns : tie.Need-returns Inv-loop μ-loop
 returns c = added-done (c .before .before .before .before .before .before .before .before .pre .1) (rw neg-zero-is at (c .before .before .before .before .fill .ensures)) (c .before .loop .inv .0) (omega arith)

@@ -12,7 +12,9 @@ use Rattle.subspace.proofs.head_at.Statement.{statement}
 use Rattle.subspace.proofs.head_at.Tie as tie
 
 shared-slice-read-result : tie.Need-shared-slice-read-result
-shared-slice-read-result c = let l = end-long (Ieee.le zero64 (c .before .before .before .before .before .args .slope)) _ _ _ (c .before .before .before .before .before .pre .0) (c .before .end .ensures) in omega arith
+shared-slice-read-result c =
+    let l = end-long (Ieee.le zero64 (c .before .before .before .before .before .args .slope)) _ _ _ (c .before .before .before .before .before .pre .0) (c .before .end .ensures) in
+    omega arith
 
 returns : tie.Need-returns
 returns c =

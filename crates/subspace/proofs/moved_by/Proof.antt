@@ -8,7 +8,9 @@ returns : tie.Need-returns
 returns c = no-move _ _ _ (c .before .all-finite .ensures) (c .if1 .taken)
 
 returns-2 : tie.Need-returns-2
-returns-2 c = a-move _ _ _ _ _ _ (c .before .before .before .before .before .before .before .all-finite .ensures) (c .before .before .before .before .before .before .if1 .left) (c .before .before .before .before .share .ensures) (c .before .before .moved .ensures)
+returns-2 c =
+    let s = c .before .before .before .before in
+    a-move _ _ _ _ _ _ (s .before .before .before .all-finite .ensures) (s .before .before .if1 .left) (s .share .ensures) (c .before .before .moved .ensures)
 
 pub moved-by-spec : {M : Type 1} → statement M
 moved-by-spec =

@@ -5,12 +5,12 @@ use Rattle.definition.specs.Number.{zero64}
 use Rattle.definition.specs.Compact.{padded, zeroRow}
 use Rattle.area.specs.Area.{view}
 use Rattle.compact.proofs.Laws.{Padding, padding-none, padding-done, pairs-count, laws}
-use Rattle.subspace.specs.State.{reducedOf}
+use Rattle.subspace.specs.State.{reducedAt}
 use Rattle.subspace.proofs.reduced.Statement.{statement}
 use Rattle.subspace.proofs.reduced.Tie as tie
 
 abbrev Inv-loop : tie.InvT-loop
-Inv-loop area h theta block size b₀ i₀ b i = Padding zeroRow (2 * h .pairs) (λ (i : ℕ). padded zero64 (2 * h .pairs) (reducedOf h theta (view area (h .n)) i)) b i
+Inv-loop area h theta block size b₀ i₀ b i = Padding zeroRow (2 * h .pairs) (λ (i : ℕ). padded zero64 (2 * h .pairs) (reducedAt h theta (view area (h .n)) i)) b i
 
 abbrev μ-loop : tie.MeasureT-loop
 μ-loop area h theta block size b₀ i₀ b i = 2 * h .pairs - i

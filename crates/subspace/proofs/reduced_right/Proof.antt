@@ -31,7 +31,9 @@ free-sum-requires c κs =
     (omega arith, vector-room _ s (omega arith), vector-room _ s (omega arith))
 
 loop-again : tie.Need-loop-again Inv-loop μ-loop
-loop-again c = padding-more (c .before .before .before .loop .inv) (omega arith) (c .free-sum .ensures ∙ right-is _ (c .before .before .before .before .before .before .before .pre .1) (omega arith))
+loop-again c =
+    let r = c .before .before .before in
+    padding-more (r .loop .inv) (omega arith) (c .free-sum .ensures ∙ right-is _ (r .before .before .before .before .pre .1) (omega arith))
 
 returns : tie.Need-returns Inv-loop μ-loop
 returns c = rw pairs-count (padding-done (c .before .loop .inv) (omega arith))

@@ -4,12 +4,12 @@ use native.Mathlib.Omega.{arith}
 use Rattle.definition.specs.Number.{zero64}
 use Rattle.area.specs.Area.{view}
 use Rattle.compact.proofs.Laws.{Padding, padding-none, laws}
-use Rattle.subspace.specs.State.{reducedOf}
+use Rattle.subspace.specs.State.{reducedAt}
 use Rattle.subspace.proofs.reduced_row.Statement.{statement}
 use Rattle.subspace.proofs.reduced_row.Tie as tie
 
 abbrev Inv-loop : tie.InvT-loop
-Inv-loop area h theta block i size r₀ j₀ r j = Padding zero64 (2 * h .pairs) (reducedOf h theta (view area (h .n)) i) r j
+Inv-loop area h theta block i size r₀ j₀ r j = Padding zero64 (2 * h .pairs) (reducedAt h theta (view area (h .n)) i) r j
 
 abbrev μ-loop : tie.MeasureT-loop
 μ-loop area h theta block i size r₀ j₀ r j = 2 * h .pairs - j

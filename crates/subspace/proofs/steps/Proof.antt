@@ -1,4 +1,4 @@
--- `subspace::steps` meets its contract: without pairs, without a solution, and with one. Assumes nothing.
+-- `subspace::steps` meets its contract: without pairs, without weights, and with them. Assumes nothing.
 use borrow.Author.Needs.{needs}
 use Rattle.subspace.proofs.Makes.{plain, by-weights, no-steps, with-steps}
 use Rattle.subspace.proofs.steps.Statement.{statement}
@@ -9,13 +9,14 @@ returns c = plain _ _ _ _ (c .before .before .before .before .if1 .taken) (c .be
 
 returns-2 : tie.Need-returns-2
 returns-2 c =
-    let w = c .before .before .solve .result in
-    no-steps _ _ _ (w .ok) (w .x) (by-weights _ _ _ _ _ _ (c .before .before .before .before .before .before .before .before .if1 .left) (c .before .before .before .before .before .before .reduced .ensures) (c .before .before .before .before .reduced-right .ensures) (c .before .before .solve .ensures)) (c .if2 .taken)
+    let w = c .before .before .weights in
+    no-steps _ _ _ (w .result .ok) (w .result .x) (by-weights _ _ _ _ (c .before .before .before .before .if1 .left) (w .ensures)) (c .if2 .taken)
 
 returns-3 : tie.Need-returns-3
 returns-3 c =
-    let w = c .before .before .before .before .before .before .before .before .before .before .before .solve .result in
-    with-steps _ _ _ _ _ (w .ok) (w .x) (by-weights _ _ _ _ _ _ (c .before .before .before .before .before .before .before .before .before .before .before .before .before .before .before .before .before .if1 .left) (c .before .before .before .before .before .before .before .before .before .before .before .before .before .before .before .reduced .ensures) (c .before .before .before .before .before .before .before .before .before .before .before .before .before .reduced-right .ensures) (c .before .before .before .before .before .before .before .before .before .before .before .solve .ensures)) (c .before .before .before .before .before .before .before .before .before .if2 .left) (c .before .before .before .before .before .before .corrections .ensures) (c .before .before .weighted-steps .ensures)
+    let t = c .before .before .before .before .before .before .before .before .before .before .before in
+    let w = t .weights .result in
+    with-steps _ _ _ _ _ (w .ok) (w .x) (by-weights _ _ _ _ (t .before .before .if1 .left) (t .weights .ensures)) (c .before .before .before .before .before .before .before .before .before .if2 .left) (c .before .before .before .before .before .before .corrections .ensures) (c .before .before .weighted-steps .ensures)
 
 pub steps-spec : {M : Type 1} → statement M
 steps-spec =
@@ -24,9 +25,6 @@ steps-spec =
     (λ c κs. search needs)
     (λ c. search needs)
     returns
-    (λ c κs. search needs)
-    (λ c κs. search needs)
-    (λ c. search needs)
     (λ c κs. search needs)
     (λ c. search needs)
     returns-2

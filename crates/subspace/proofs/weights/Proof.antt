@@ -1,0 +1,19 @@
+-- `subspace::weights` meets its contract. Assumes nothing.
+use mathlib.Core.Path.{sym, _∙_}
+use Prim.Native.Nat.{_*_}
+use denote.Ref.{now}
+use borrow.Author.Needs.{needs}
+use Rattle.definition.specs.Solve.{solve}
+use Rattle.area.specs.Area.{view}
+use Rattle.compact.proofs.Laws.{pairs-count}
+use Rattle.subspace.proofs.weights.Statement.{statement}
+use Rattle.subspace.proofs.weights.Tie as tie
+
+returns : tie.Need-returns
+returns c =
+    let a = c .before .before .before .before .before .args in
+    let v = view (now (a .area)) (a .h .n) in
+    c .solve .ensures ∙ (λ k. solve (2 * sym (pairs-count (a .h) v) k) (c .before .before .before .reduced .ensures k) (c .before .before .reduced-right .ensures k))
+
+pub weights-spec : {M : Type 1} → statement M
+weights-spec = tie.close (tie.spec (λ c κs. search needs) (λ c κs. search needs) (λ c. search needs) (λ c κs. search needs) returns)
