@@ -3,9 +3,10 @@
 use libc::STDOUT_FILENO;
 ghost use mathlib.Core.Path.{_≡_};
 ghost use mathlib.Core.Bool.{true};
-ghost use Prim.Native.Nat.{_+_, _*_, _≤_};
+ghost use Prim.Native.Nat.{_+_, _*_, _≤_, _<_};
 ghost use lib.ListN.{length};
-ghost use Rattle.compact.specs.State.{Sound};
+ghost use Rattle.area.specs.Area.{view};
+ghost use Rattle.compact.specs.State.{Sound, Modelled};
 
 const SOLVE: u64 = 1;
 
@@ -15,13 +16,13 @@ const TIMES: u64 = 3;
 
 const GEOMETRY: u64 = 4;
 
-// How many cases were read, how many of each kind are equal, and how many were left out or differ.
+// How many cases were read, how many of each kind are equal, and how many differ.
 struct Tally {
     number: u64,
     solve: u64,
     update: u64,
     times: u64,
-    skipped: u64,
+    geometry: u64,
     different: u64,
 }
 
@@ -379,6 +380,138 @@ fn times_case(s: &[u8]) -> bool {
     false
 }
 
+// ---- geometry: a model, x, g, lower, upper; whether there is a Cauchy point, its words, which coordinates are free, whether there
+// is a target, and its words
+
+// 1 where coordinate i of the Cauchy point lies strictly between its bounds.
+fn free_flag(area: &[f64], n: usize, i: usize) -> u64
+    requires { ⌜ (16 * n ≤ length (now area)) × (i < n) ⌝ }
+{
+    let x = area::get(area, n, area::CAUCHY, i);
+    if area::get(area, n, area::LOWER, i) < x {
+        if x < area::get(area, n, area::UPPER, i) {
+            return 1;
+        }
+    }
+    0
+}
+
+// Whether the free coordinates are those of the words from at on.
+fn are_free(area: &[f64], n: usize, s: &[u8], at: usize) -> bool
+    requires { ⌜ 16 * n ≤ length (now area) ⌝ }
+{
+    let mut i = 0;
+    while i < n {
+        if free_flag(area, n, i) != word(s, after(at, i)) {
+            return false;
+        }
+        i += 1;
+    }
+    true
+}
+
+// The flag of the target, where that of the Cauchy point is word at.
+fn target_flag(n: usize, at: usize) -> usize {
+    after(after(after(at, 1), n), n)
+}
+
+// Whether the Cauchy point is the answer from word at on, with its free coordinates.
+fn is_cauchy(area: &[f64], n: usize, s: &[u8], at: usize) -> bool
+    requires { ⌜ 16 * n ≤ length (now area) ⌝ }
+{
+    if word(s, at) != 1 {
+        return false;
+    }
+    let point = after(at, 1);
+    if !is_vector(area, n, area::CAUCHY, s, point) {
+        return false;
+    }
+    are_free(area, n, s, after(point, n))
+}
+
+// Whether the target, where ok says that there is one, is the answer from word i on.
+fn is_target(area: &[f64], n: usize, ok: bool, s: &[u8], i: usize) -> bool
+    requires { ⌜ 16 * n ≤ length (now area) ⌝ }
+{
+    if !ok {
+        return word(s, i) == 0;
+    }
+    if word(s, i) != 1 {
+        return false;
+    }
+    is_vector(area, n, area::TARGET, s, after(i, 1))
+}
+
+// Whether the answer from word at on is that there is neither a Cauchy point nor a target.
+fn is_neither(n: usize, s: &[u8], at: usize) -> bool {
+    if word(s, at) != 0 {
+        return false;
+    }
+    word(s, target_flag(n, at)) == 0
+}
+
+// Compares the Cauchy point, minimizes from it, and compares the target.
+fn from_cauchy(
+    area: &mut [f64],
+    h: compact::Shape,
+    theta: f64,
+    block: [[f64; 32]; 32],
+    s: &[u8],
+    at: usize,
+) -> bool
+    requires { ⌜ Sound h (length (now area)) × Modelled h theta block (view (now area) (h .n)) ⌝ }
+{
+    if !is_cauchy(area, h.n, s, at) {
+        return false;
+    }
+    let ok = subspace::primal_minimize(area, h, theta, block);
+    is_target(area, h.n, ok, s, target_flag(h.n, at))
+}
+
+// Finds the Cauchy point of the pairs' model, and compares from there on.
+fn is_geometry(area: &mut [f64], h: compact::Shape, theta: f64, s: &[u8], at: usize) -> bool
+    requires { ⌜ Sound h (length (now area)) × (h .n ≤ 64) ⌝ }
+{
+    compact::lay_columns(area, h, theta);
+    let b = compact::block(area, h, theta);
+    if cauchy::generalized_cauchy(area, h, theta, b) {
+        return from_cauchy(area, h, theta, b, s, at);
+    }
+    is_neither(h.n, s, at)
+}
+
+// x, g and the bounds go to their places. The answer is the word after them.
+fn load_point(area: &mut [f64], n: usize, s: &[u8], at: usize) -> usize
+    requires { ⌜ 16 * n ≤ length (now area) ⌝ }
+{
+    let g = load(area, n, area::X, s, at);
+    let lower = load(area, n, area::G, s, g);
+    let upper = load(area, n, area::LOWER, s, lower);
+    load(area, n, area::UPPER, s, upper)
+}
+
+// Loads the model with the point, and compares.
+fn geometry_in(area: &mut [f64], h: compact::Shape, s: &[u8]) -> bool
+    requires { ⌜ Sound h (length (now area)) × (h .n ≤ 64) ⌝ }
+{
+    let point = load_pairs(area, h, s);
+    let at = load_point(area, h.n, s, point);
+    is_geometry(area, h, number(s, 3), s, at)
+}
+
+fn geometry_case(s: &[u8]) -> bool {
+    let mut room = [0.0f64; ROOM];
+    let area = &mut room[..];
+    let h = shape(s);
+    if h.n > MOST {
+        return false;
+    }
+    if fits(h, area.len()) {
+        return geometry_in(area, h, s);
+    }
+    false
+}
+
 // ---- the cases in turn
 
 fn is_equal(kind: u64, s: &[u8]) -> bool {
@@ -390,6 +523,9 @@ fn is_equal(kind: u64, s: &[u8]) -> bool {
     }
     if kind == TIMES {
         return times_case(s);
+    }
+    if kind == GEOMETRY {
+        return geometry_case(s);
     }
     false
 }
@@ -405,8 +541,10 @@ fn equal(t: Tally, kind: u64) -> Tally {
         r.solve = plus_one(t.solve);
     } else if kind == UPDATE {
         r.update = plus_one(t.update);
-    } else {
+    } else if kind == TIMES {
         r.times = plus_one(t.times);
+    } else {
+        r.geometry = plus_one(t.geometry);
     }
     r
 }
@@ -421,10 +559,6 @@ fn line(label: &[u8], n: u64, end: &[u8]) {
 fn judged(t: Tally, kind: u64, s: &[u8]) -> Tally {
     let mut r = t;
     r.number = plus_one(t.number);
-    if kind == GEOMETRY {
-        r.skipped = plus_one(t.skipped);
-        return r;
-    }
     if is_equal(kind, s) {
         return equal(r, kind);
     }
@@ -475,7 +609,7 @@ fn replayed(fd: i32) -> Tally {
         solve: 0,
         update: 0,
         times: 0,
-        skipped: 0,
+        geometry: 0,
         different: 0,
     };
     let mut turns = u64::MAX;
@@ -514,7 +648,7 @@ fn report(t: Tally) {
     line(b"solve ", t.solve, b" equal\n");
     line(b"update ", t.update, b" equal\n");
     line(b"times ", t.times, b" equal\n");
-    line(b"skipped ", t.skipped, b"\n");
+    line(b"geometry ", t.geometry, b" equal\n");
     line(b"different ", t.different, b"\n");
 }
 
