@@ -1,14 +1,14 @@
 // `generalized_cauchy`: break times, the projected path, and the Cauchy point on it.
 ghost use mathlib.Core.Path.{_≡_};
 ghost use mathlib.Core.Bool.{_&&_};
-ghost use Prim.Native.Nat.{ℕ, _+_, _-_, _*_, _≤_, _<_};
+ghost use Prim.Native.Nat.{_-_, _*_, _≤_, _<_};
 ghost use lib.ListN.{length, getD};
 ghost use lib.Ieee as Ieee;
 ghost use Rattle.definition.specs.Number.{plus, totalLe, zero64};
 ghost use Rattle.definition.specs.Vector.{dot as dotOf};
-ghost use Rattle.definition.specs.Geometry.{noBreak, stopped, stopAll, passed, pointOnPath, pathStart, generalizedCauchy};
+ghost use Rattle.definition.specs.Geometry.{noBreak, stopped, stopAll, passed, generalizedCauchy};
 ghost use Rattle.definition.specs.Geometry.{along as alongOf, bySlope, still as stillOf, segment as segmentOf};
-ghost use Rattle.area.specs.Area.{view, wordsAt, rowwise, X, G, Velocity, Displacement, ProductZ, Cauchy};
+ghost use Rattle.area.specs.Area.{view, wordsAt, rowwise, X, G, Velocity, ProductZ, Cauchy};
 ghost use Rattle.compact.specs.State.{Sound, Modelled, compactOf};
 ghost use Rattle.cauchy.specs.State.{boundsOf, noBreakTime, sift, breakList, Listed, Ordered, Inserted, Kept, Found};
 ghost use Rattle.cauchy.specs.State.{movesUpIn, movesDownIn, velocityIn, breakTimeIn, boundIn, pointIn, pathOf, travelledOf, Travels, Begins, Points, PathPoint, Segments};
@@ -278,7 +278,7 @@ fn bound_met(area: &[f64], n: usize, i: usize) -> f64
 // Coordinate i stops at its bound.
 fn stop(area: &mut [f64], n: usize, i: usize, p: Path) -> Path
     requires { ⌜ (16 * n ≤ length (now area)) × (i < n) × (p .event < 64) ⌝ }
-    ensures { λ r. ⌜ Travels (stopped (boundsOf (view (now (area .entry)) n)) (view (now (area .entry)) n X) i) p (view (now (area .entry)) n) r (view (now (area .exit)) n) ⌝ }
+    ensures { λ r. ⌜ (let v = view (now (area .entry)) n in Travels (stopped (boundsOf v) (v X) i) p v r (view (now (area .exit)) n)) ⌝ }
 {
     let bound = bound_met(area, n, i);
     let x = area::get(area, n, area::X, i);
@@ -294,7 +294,7 @@ fn stop(area: &mut [f64], n: usize, i: usize, p: Path) -> Path
 // Every break at the time t stops its coordinate.
 fn stop_all(area: &mut [f64], n: usize, b: Breaks, t: f64, p: Path) -> Path
     requires { ⌜ (16 * n ≤ length (now area)) × Listed n b ⌝ }
-    ensures { λ r. ⌜ Travels (stopAll (b .count - p .event) (boundsOf (view (now (area .entry)) n)) (view (now (area .entry)) n X) (breakList b) t) p (view (now (area .entry)) n) r (view (now (area .exit)) n) ⌝ }
+    ensures { λ r. ⌜ (let v = view (now (area .entry)) n in Travels (stopAll (b .count - p .event) (boundsOf v) (v X) (breakList b) t) p v r (view (now (area .exit)) n)) ⌝ }
 {
     let list = b.list;
     let mut q = p;
@@ -312,7 +312,7 @@ fn stop_all(area: &mut [f64], n: usize, b: Breaks, t: f64, p: Path) -> Path
 // Past the segment that ends at t.
 fn pass(area: &mut [f64], n: usize, b: Breaks, t: f64, p: Path) -> Path
     requires { ⌜ (16 * n ≤ length (now area)) × Listed n b ⌝ }
-    ensures { λ r. ⌜ Travels (passed n (boundsOf (view (now (area .entry)) n)) (view (now (area .entry)) n X) (breakList b) t) p (view (now (area .entry)) n) r (view (now (area .exit)) n) ⌝ }
+    ensures { λ r. ⌜ (let v = view (now (area .entry)) n in Travels (passed n (boundsOf v) (v X) (breakList b) t) p v r (view (now (area .exit)) n)) ⌝ }
 {
     travel(area, n, t - p.previous);
     let q = stop_all(area, n, b, t, p);
@@ -384,7 +384,7 @@ fn still(area: &[f64], n: usize) -> bool
 // With a slope below zero and a curvature above: a minimum inside the segment, or on to its end.
 fn along(area: &mut [f64], n: usize, b: Breaks, p: Path, next: f64, minimizer: f64) -> Segment
     requires { ⌜ (16 * n ≤ length (now area)) × Listed n b ⌝ }
-    ensures { λ r. ⌜ Segments (alongOf n (boundsOf (view (now (area .entry)) n)) (view (now (area .entry)) n X) (breakList b) (pathOf p (view (now (area .entry)) n)) next minimizer) (view (now (area .entry)) n) r (view (now (area .exit)) n) ⌝ }
+    ensures { λ r. ⌜ (let v = view (now (area .entry)) n in Segments (alongOf n (boundsOf v) (v X) (breakList b) (pathOf p v) next minimizer) v r (view (now (area .exit)) n)) ⌝ }
 {
     if !float::is_finite(minimizer) {
         return Segment::Ended(false);
@@ -399,7 +399,7 @@ fn along(area: &mut [f64], n: usize, b: Breaks, p: Path, next: f64, minimizer: f
 // The curvature must lie above zero; a slope that does not fall ends the path.
 fn by_slope(area: &mut [f64], n: usize, b: Breaks, p: Path, slope: f64, curvature: f64) -> Segment
     requires { ⌜ (16 * n ≤ length (now area)) × Listed n b ⌝ }
-    ensures { λ r. ⌜ Segments (bySlope n (boundsOf (view (now (area .entry)) n)) (view (now (area .entry)) n X) (breakList b) (pathOf p (view (now (area .entry)) n)) slope curvature) (view (now (area .entry)) n) r (view (now (area .exit)) n) ⌝ }
+    ensures { λ r. ⌜ (let v = view (now (area .entry)) n in Segments (bySlope n (boundsOf v) (v X) (breakList b) (pathOf p v) slope curvature) v r (view (now (area .exit)) n)) ⌝ }
 {
     if !float::is_finite(slope) {
         return Segment::Ended(false);
@@ -420,7 +420,7 @@ fn by_slope(area: &mut [f64], n: usize, b: Breaks, p: Path, slope: f64, curvatur
 // The slope along the path, with B z in its vector.
 fn slope(area: &[f64], n: usize) -> f64
     requires { ⌜ 16 * n ≤ length (now area) ⌝ }
-    ensures { λ r. ⌜ r ≡ plus (dotOf n (view (now (area .entry)) n G) (view (now (area .entry)) n Velocity)) (dotOf n (view (now (area .entry)) n ProductZ) (view (now (area .entry)) n Velocity)) ⌝ }
+    ensures { λ r. ⌜ (let v = view (now (area .entry)) n in r ≡ plus (dotOf n (v G) (v Velocity)) (dotOf n (v ProductZ) (v Velocity))) ⌝ }
 {
     let first = area::dot(area, n, area::G, area::VELOCITY);
     let second = area::dot(area, n, area::PRODUCT_Z, area::VELOCITY);
@@ -437,7 +437,7 @@ fn segment_from(
     p: Path,
 ) -> Segment
     requires { ⌜ Sound h (length (now area)) × Modelled h theta block (view (now area) (h .n)) × Listed (h .n) b ⌝ }
-    ensures { λ r. ⌜ Segments (segmentOf (h .n) (boundsOf (view (now (area .entry)) (h .n))) (compactOf h theta (view (now (area .entry)) (h .n))) (view (now (area .entry)) (h .n) X) (view (now (area .entry)) (h .n) G) (breakList b) (pathOf p (view (now (area .entry)) (h .n)))) (view (now (area .entry)) (h .n)) r (view (now (area .exit)) (h .n)) ⌝ }
+    ensures { λ r. ⌜ (let v = view (now (area .entry)) (h .n) in Segments (segmentOf (h .n) (boundsOf v) (compactOf h theta v) (v X) (v G) (breakList b) (pathOf p v)) v r (view (now (area .exit)) (h .n))) ⌝ }
 {
     if still(area, h.n) {
         return Segment::Ended(point_on_path(area, h.n));
@@ -461,7 +461,7 @@ pub fn generalized_cauchy(
     block: [[f64; 32]; 32],
 ) -> bool
     requires { ⌜ Sound h (length (now area)) × Modelled h theta block (view (now area) (h .n)) × (h .n ≤ 64) ⌝ }
-    ensures { λ r. ⌜ Points (generalizedCauchy (h .n) (boundsOf (view (now (area .entry)) (h .n))) (compactOf h theta (view (now (area .entry)) (h .n))) (view (now (area .entry)) (h .n) X) (view (now (area .entry)) (h .n) G)) (view (now (area .entry)) (h .n)) r (view (now (area .exit)) (h .n)) ⌝ }
+    ensures { λ r. ⌜ (let v = view (now (area .entry)) (h .n) in Points (generalizedCauchy (h .n) (boundsOf v) (compactOf h theta v) (v X) (v G)) v r (view (now (area .exit)) (h .n))) ⌝ }
 {
     let b = find_breaks(area, h.n);
     let mut p = begin_path(area, h.n);

@@ -1,5 +1,4 @@
--- `cauchy::break_at` meets its contract: a walk of its MIR, by hand, as the logic's `Denote/Examples/Slices/At.antt`, at elements that are structs of 16 bytes.
--- Assumes nothing.
+-- `cauchy::break_at` meets its contract: a walk of its MIR, by hand. The shared borrow is looked into, and the element, 16 bytes, is copied out. Assumes nothing.
 use mathlib.Core.Path.{refl, sym}
 use Prim.Native.Nat.{ℕ, _<_, _^_}
 use mathlib.Core.List.{[], _∷_, List}

@@ -1,6 +1,5 @@
--- `cauchy::insert_in` meets its contract: a walk of its MIR with a loop, by hand. The borrow is opened once, before the loop, and closed once, after it
--- (the logic's `Denote/Examples/Count.antt` for the loop, and `Slices/Put.antt` and `At.antt` for an element).
--- Assumes nothing.
+-- `cauchy::insert_in` meets its contract: a walk of its MIR with a loop, by hand. The borrow is opened once, before the loop, and closed once, after it;
+-- in each turn the entry before k is copied out, compared, and moved up. Assumes nothing.
 use mathlib.Core.Path.{_≡_, refl, sym, _∙_, ap, subst}
 use Prim.Native.Nat.{ℕ, _<_, _≤_, _^_, _-_}
 use native.Mathlib.Nat.{le-refl, lt-of-le-of-lt}
