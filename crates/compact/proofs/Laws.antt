@@ -14,12 +14,12 @@ use lib.ListN.{length, getD, set, replicate, List·getD-append}
 use lib.Seq.{ext-getD}
 use lib.Ieee.{Float, nan}
 use Rattle.definition.specs.Vector.{tab, word, foldTo, dot}
-use Rattle.definition.specs.Compact.{pairOf, padded}
+use Rattle.definition.specs.Compact.{pairOf, wrap, padded}
 use Rattle.area.specs.Area.{Vecs, upd, given}
 use Rattle.area.proofs.Laws.{room}
 use Rattle.area.proofs.Laws as area-laws
 use Rattle.compact.specs.declared.Shape.{Shape}
-use Rattle.compact.specs.State.{wrap, pairSlot, pairAt, pairsOf, Sound, Slot}
+use Rattle.compact.specs.State.{pairSlot, pairAt, pairsOf, Sound, Slot}
 
 -- ---- tables and folds
 

@@ -28,7 +28,7 @@ pairs-kept h a b k =
     λ i. tab (h .pairs) (λ (j : ℕ). record { s = k (pairSlot h j) (omega arith) i; y = k (pairSlot h j + 1) (omega arith) i })
 
 pub compact-kept : (h : Shape) (theta : Float) (a b : Vecs) → HighKept a b → compactOf h theta b ≡ compactOf h theta a
-compact-kept h theta a b k = λ i. record { pairs = pairs-kept h a b k i; theta = theta }
+compact-kept h theta a b k = λ i. record { pairs = pairs-kept h a b k i; theta = theta; oldest = h .oldest }
 
 pub laid-kept : {h : Shape} {theta : Float} {a : Vecs} (b : Vecs) → HighKept a b → Laid h theta a → Laid h theta b
 laid-kept {h} {theta} {a} b k r = record {
@@ -45,7 +45,7 @@ modelled-kept {h} {theta} {m} {a} b k r = record {
 pub compact-laid : {h : Shape} {size : ℕ} (theta : Float) (a b : Vecs) → Sound h size → PairsKept h a b → compactOf h theta b ≡ compactOf h theta a
 unfolding pairsOf
 compact-laid {h} theta a b s k =
-    ap (λ ps. record { pairs = ps; theta = theta })
+    ap (λ ps. record { pairs = ps; theta = theta; oldest = h .oldest })
     (tab-same (h .pairs) (pairAt h b) (pairAt h a)
     (λ j l.
     let g = place-below j _ s (omega arith) refl in

@@ -11,11 +11,11 @@ use lib.Ieee.{Float}
 use Rattle.definition.specs.Number.{over}
 use Rattle.definition.specs.Vector.{tab, dot}
 use Rattle.definition.specs.Compact as C
-use Rattle.definition.specs.Compact.{Pair, makeRoom}
+use Rattle.definition.specs.Compact.{Pair, wrap, makeRoom}
 use Rattle.area.specs.Area.{Vecs, upd, copyOf, Velocity, Displacement}
 use Rattle.area.proofs.Laws.{upd-other}
 use Rattle.compact.specs.declared.Shape.{Shape}
-use Rattle.compact.specs.State.{wrap, pairsOf, compactOf, Sound, pushedShape, Pushed, Updated}
+use Rattle.compact.specs.State.{pairAt, pairsOf, compactOf, Sound, pushedShape, Pushed, Updated}
 use Rattle.compact.proofs.Laws.{tab-length, tab-same, by-wrap, wrap-below}
 
 tab-last : {A : Type 0} (n : ℕ) (f : ℕ → A) → tab (suc n) f ≡ tab n f ++ (f n ∷ [])
@@ -108,6 +108,13 @@ unfolding pairsOf
 push-at h v s y l o true e = rw e (more (h .m) (h .pairs) (h .oldest) v s y (ltb-true (h .pairs) (h .m) e) o)
 push-at h v s y l o false e = rw e (full (h .m) (h .pairs) (h .oldest) v s y (omega (arith, ltb-false (h .pairs) (h .m) e)) o)
 
+-- the place of the oldest after a push
+oldest-at : (h : Shape) (theta : Float) (v : Vecs) → h .pairs ≤ h .m → (t : Bool) → ltb (h .pairs) (h .m) ≡ t
+    → pushedShape h .oldest ≡ C.oldestAfter (h .m) (compactOf h theta v)
+unfolding pairsOf
+oldest-at h theta v l true e = rw (e, tab-length (h .pairs) (pairAt h v), ne-eqb (h .pairs) (h .m) (λ q. omega (arith, ltb-true (h .pairs) (h .m) e)))
+oldest-at h theta v l false e = rw (e, tab-length (h .pairs) (pairAt h v), eq-eqb (h .pairs) (h .m) (omega (arith, ltb-false (h .pairs) (h .m) e)))
+
 sound-at : (h : Shape) (size : ℕ) → Sound h size → (t : Bool) → ltb (h .pairs) (h .m) ≡ t → Sound (pushedShape h) size
 sound-at h size r true e = rw e (record { few = r .few; most = omega (arith, ltb-true (h .pairs) (h .m) e); ring = r .ring; all = r .all })
 sound-at h size r false e = rw e (record { few = r .few; most = r .most; ring = wrap-below (h .m) (h .oldest + 1) (omega (arith, r .ring)); all = r .all })
@@ -129,7 +136,7 @@ pair-pushed {h} {g} old theta k w a b r d e q j =
       m = rw j;
       is =
           rw (j, same)
-          (λ i. record { pairs = push-at h a (a Velocity) (a Displacement) (r .most) (r .ring) (ltb (h .pairs) (h .m)) refl i; theta = theta });
+          (λ i. record { pairs = push-at h a (a Velocity) (a Displacement) (r .most) (r .ring) (ltb (h .pairs) (h .m)) refl i; theta = theta; oldest = oldest-at h old a (r .most) (ltb (h .pairs) (h .m)) refl i });
       kept = λ p l. (λ i. same i p) ∙ low-put a at p (a Velocity) (a Displacement) l;
     }
 

@@ -9,13 +9,11 @@ use Rattle.definition.specs.Number.{times, minus}
 use Rattle.definition.specs.Vector.{tab, foldTo, word}
 use Rattle.definition.specs.Solve.{Matrix}
 use Rattle.definition.specs.Compact as C
+use Rattle.definition.specs.Compact.{wrap}
 use Rattle.area.specs.Area.{Vecs, upd, given, Velocity, Displacement}
 use Rattle.compact.specs.declared.Shape.{Shape}
 
 -- ---- where the pairs stand
-
-abbrev pub wrap : ℕ → ℕ → ℕ
-wrap m i = cond (ltb i m) i (i - m)
 
 -- pair k, oldest first: s, and y in the next vector
 abbrev pub pairSlot : Shape → ℕ → ℕ
@@ -32,7 +30,7 @@ unfoldable pub pairsOf : Shape → Vecs → List C.Pair
 pairsOf h v = tab (h .pairs) (pairAt h v)
 
 abbrev pub compactOf : Shape → Float → Vecs → C.Compact
-compactOf h theta v = record { pairs = pairsOf h v; theta = theta }
+compactOf h theta v = record { pairs = pairsOf h v; theta = theta; oldest = h .oldest }
 
 -- the ring's numbers lie in range, and there is room for the vectors
 pub record Sound (h : Shape) (size : ℕ) : Type 0 where

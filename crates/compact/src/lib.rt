@@ -6,10 +6,10 @@ ghost use lib.ListN.{length, replicate};
 ghost use Rattle.definition.specs.Number.{over, times, minus, zero64};
 ghost use Rattle.definition.specs.Vector.{tab, dot as dotOf};
 ghost use Rattle.definition.specs.Compact.{curved as curvedOf, usable as usableOf, pairOf, columnWord, diagonalEntry, lowerEntry, blockEntry};
-ghost use Rattle.definition.specs.Compact.{padded, zeroRow, block as blockOf, rightSide, weights as weightsOf};
+ghost use Rattle.definition.specs.Compact.{wrap, padded, zeroRow, block as blockOf, rightSide, weights as weightsOf};
 ghost use Rattle.area.specs.Area.{view, upd, rowwise};
 ghost use Rattle.solve.specs.Answers.{answerOf};
-ghost use Rattle.compact.specs.State.{wrap, pairsOf, compactOf, columnSlot, Sound, Slot, pushedShape, Pushed, Laid, PairsKept, Modelled, Multiplied, lessTo};
+ghost use Rattle.compact.specs.State.{pairsOf, compactOf, columnSlot, Sound, Slot, pushedShape, Pushed, Laid, PairsKept, Modelled, Multiplied, lessTo};
 
 // What the places of the pairs rest on: n coordinates, m places, how many are used, and which is the oldest.
 pub struct Shape {

@@ -1,5 +1,5 @@
 -- `Compact`: the correction pairs, oldest first, and the matrix B = theta I - W M W' that they stand for.
-use Prim.Native.Nat.{ℕ, _-_, _*_}
+use Prim.Native.Nat.{ℕ, _+_, _-_, _*_}
 use mathlib.Core.Bool.{Bool, cond, _&&_}
 use mathlib.Core.List.{List, [], _∷_, _++_}
 use mathlib.Core.Option.{Option, none, some}
@@ -17,13 +17,15 @@ pub record Pair : Type 0 where
   pub s : List Float
   pub y : List Float
 
+-- The pairs are held in maxcor places, with a number for the place of the oldest (document 01): no number of the fit rests on it.
 pub record Compact : Type 0 where
   pub pairs : List Pair
   pub theta : Float
+  pub oldest : ℕ
 
 -- `Compact::new`
 abbrev pub noPairs : Compact
-noPairs = record { pairs = []; theta = one64 }
+noPairs = record { pairs = []; theta = one64; oldest = 0 }
 
 abbrev pub count : Compact → ℕ
 count c = length (c .pairs)
@@ -43,8 +45,15 @@ usable theta = finite theta && Ieee.lt zero64 theta
 abbrev pub makeRoom : ℕ → List Pair → List Pair
 makeRoom maxcor ps = cond (eqb (length ps) maxcor) (drop 1 ps) ps
 
+-- a place, or how far it lies past the last one
+abbrev pub wrap : ℕ → ℕ → ℕ
+wrap maxcor i = cond (ltb i maxcor) i (i - maxcor)
+
+abbrev pub oldestAfter : ℕ → Compact → ℕ
+oldestAfter maxcor c = cond (eqb (count c) maxcor) (wrap maxcor (c .oldest + 1)) (c .oldest)
+
 abbrev pub pushed : ℕ → Compact → Pair → Float → Compact
-pushed maxcor c p theta = record { pairs = makeRoom maxcor (c .pairs) ++ (p ∷ []); theta = theta }
+pushed maxcor c p theta = record { pairs = makeRoom maxcor (c .pairs) ++ (p ∷ []); theta = theta; oldest = oldestAfter maxcor c }
 
 -- the old pairs and theta stay unless the new pair is accepted
 unfoldable pub update : ℕ → ℕ → Compact → List Float → List Float → Compact

@@ -142,7 +142,7 @@ starred =
     ∷ (report (run (frugal (between five five)) unsupplied) ≡ reported 1 0 1 1 zero64 five)
     -- s = 2 ^ -52, y = 1: pair dropped; s = 2 ^ -51: kept, theta 2 ^ 51
     ∷ (onePair half^52 ≡ noPairs)
-    ∷ (onePair half^51 ≡ record { pairs = record { s = half^51 ∷ []; y = one64 ∷ [] } ∷ []; theta = fin false 1 (pos 51) })
+    ∷ (onePair half^51 ≡ record { pairs = record { s = half^51 ∷ []; y = one64 ∷ [] } ∷ []; theta = fin false 1 (pos 51); oldest = 0 })
     -- rows (2, 1), (-2, 1), right side (0, 4): second row pivots, answer (-1, 2)
     ∷ (pivotOf 2 (rows two64 one64 minusTwo one64) 0 ≡ 1)
     ∷ (solve 2 (rows two64 one64 minusTwo one64) (zero64 ∷ four ∷ []) ≡ some (minusOne ∷ two64 ∷ []))

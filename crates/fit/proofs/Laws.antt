@@ -4,13 +4,13 @@ use mathlib.Core.List.{List, []}
 use Prim.Native.Nat.{ℕ, _+_, _*_, _≤_, _<_}
 use native.Mathlib.Omega.{arith}
 use lib.Ieee.{Float}
-use Rattle.definition.specs.Compact.{Compact, Pair}
+use Rattle.definition.specs.Compact.{Compact, Pair, wrap}
 use Rattle.definition.specs.Machine as M
 use Rattle.area.specs.Area.{Vecs, view, upd, ScratchOnly, X, G, Lower, Upper, X0, Trial, TrialGradient, Direction}
 use Rattle.counters.specs.declared.Counters.{Counters}
 use Rattle.counters.specs.Counts.{countersOf}
 use Rattle.compact.specs.declared.Shape.{Shape}
-use Rattle.compact.specs.State.{pairSlot, pairAt, pairsOf, compactOf, wrap, Sound}
+use Rattle.compact.specs.State.{pairSlot, pairAt, pairsOf, compactOf, Sound}
 use Rattle.compact.proofs.Laws.{tab-same, place-below, vector-room}
 use Rattle.compact.proofs.Models as models
 use Rattle.fit.specs.declared.Fit.{Fit}
@@ -20,13 +20,14 @@ use Rattle.fit.specs.State.{machine, machineWith, machineOf, phaseOf, wi
 -- ---- what is not the machine's
 
 pub kept-refl : {t : Fit} → Kept t t
-kept-refl = record { options = refl; entries = refl; words = refl }
+kept-refl = record { options = refl; entries = refl; words = refl; settled = λ s. s }
 
 pub kept-trans : {t s r : Fit} → Kept t s → Kept s r → Kept t r
 kept-trans h k = record {
   options = k .options ∙ h .options;
   entries = k .entries ∙ h .entries;
   words = k .words ∙ h .words;
+  settled = λ s. k .settled (h .settled s);
 }
 
 -- ---- turns, which leave the area alone
@@ -48,7 +49,7 @@ turns-then {G = G} h k = record {
 }
 
 pub phased : {p : Phase} {t r : Fit} → r ≡ withPhase p t → Turns (M.inPhase (phaseOf p)) t r
-phased e = same-fit e (record { shape = refl; kept = record { options = refl; entries = refl; words = refl }; is = λ v. refl })
+phased e = same-fit e (record { shape = refl; kept = record { options = refl; entries = refl; words = refl; settled = λ s. s }; is = λ v. refl })
 
 -- ---- vectors that give the same machine
 
@@ -199,12 +200,12 @@ compacted {t} {h} {theta} {c} {a} {b} n m s e l = record {
   n = n;
   m = m;
   sound = s;
-  kept = record { options = refl; entries = refl; words = refl };
+  kept = record { options = refl; entries = refl; words = refl; settled = λ s. s };
   x0 = l X0 (omega arith);
   is =
       ap (λ (k : ℕ). machine (withRing h theta t) (view b k)) n
       ∙ low-same (pairsOf h (view b (t .shape .n))) (withRing h theta t) (view a (t .shape .n)) (view b (t .shape .n)) l
-      ∙ (λ i. machineWith (e i .pairs) (withRing (record { n = n i; m = m i; pairs = h .pairs; oldest = h .oldest }) (e i .theta) t) (view a (t .shape .n)));
+      ∙ (λ i. machineWith (e i .pairs) (withRing (record { n = n i; m = m i; pairs = h .pairs; oldest = e i .oldest }) (e i .theta) t) (view a (t .shape .n)));
 }
 
 -- ---- counters

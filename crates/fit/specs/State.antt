@@ -9,7 +9,7 @@ use Rattle.definition.specs.Machine as M
 use Rattle.problem.specs.Setups.{floatOf, schemeOf, limitsOf}
 use Rattle.counters.specs.Counts.{countersOf, terminationOf}
 use Rattle.counters.specs.declared.Counters.{Counters}
-use Rattle.search.specs.State.{searchOf}
+use Rattle.search.specs.State.{searchOf, Settled}
 use Rattle.compact.specs.State.{pairsOf, Sound}
 use Rattle.area.specs.Area.{Vecs, view, X, X0, G, Lower, Upper, Trial, TrialGradient, Direction}
 use Rattle.fit.specs.declared.Fit.{Fit}
@@ -50,7 +50,7 @@ machineWith ps t v = record {
   terms = termsOf t v;
   limits = limitsOf (t .limits);
   held = record { x = v X; f = t .value; g = v G };
-  compact = record { pairs = ps; theta = t .theta };
+  compact = record { pairs = ps; theta = t .theta; oldest = t .shape .oldest };
   trial = record { x = v Trial; f = t .trial; g = v TrialGradient };
   direction = v Direction;
   search = searchOf (t .search) (t .trials);
@@ -71,11 +71,12 @@ pub record Small (k : Counters) : Type 0 where
   pub nit : k .nit < 0x4000_0000_0000_0000
   pub drawn : k .drawn < 0x4000_0000_0000_0000
 
--- what is not the machine's stays: the options as given, and the log's numbers
+-- what is not the machine's stays: the options as given, the log's numbers, and 0 for an absent high end
 pub record Kept (t r : Fit) : Type 0 where
   pub options : r .options ≡ t .options
   pub entries : r .entries ≡ t .entries
   pub words : r .words ≡ t .words
+  pub settled : Settled (t .search) (t .trials) → Settled (r .search) (r .trials)
 
 -- r is t taken through F, whatever the area holds
 pub record Turns (F : M.Machine → M.Machine) (t r : Fit) : Type 0 where

@@ -1,4 +1,4 @@
--- The count of trials: the code's test by `<` is the definition's by `≤`, and where the search goes on the count is below 60. Assumes nothing.
+-- The high end, and the count of trials: the code's test by `<` is the definition's by `≤`, and where the search goes on the count is below 60. Assumes nothing.
 use Prim.Native.Nat.{ℕ, _<_}
 use native.Mathlib.Omega.{arith}
 use mathlib.Core.Path.{_≡_, refl}
@@ -7,7 +7,13 @@ use borrow.Author.Tests.{not-true, leb-true, leb-false, lt-ltb, le-ltb}
 use lib.Dec.{leb, ltb}
 use lib.Ieee.{Float, eq}
 use Rattle.definition.specs.Number.{zero64}
-use Rattle.definition.specs.Search.{Search, goesOn}
+use Rattle.definition.specs.Search as S
+use Rattle.definition.specs.Search.{goesOn}
+use Rattle.search.specs.State.{Settled, NextSettled}
+use Rattle.search.specs.declared.Search.{Search}
+use Rattle.search.specs.declared.Trials.{Trials}
+use Rattle.search.specs.declared.Next.{Next}
+use Rattle.search.specs.declared.Next.the-variants.{Step}
 
 pub below-is-not-from : (a b : ℕ) → ltb b a ≡ not (leb a b)
 below-is-not-from a b = go (leb a b) refl
@@ -16,10 +22,14 @@ below-is-not-from a b = go (leb a b) refl
     go true h = le-ltb b a (leb-true a b h)
     go false h = lt-ltb b a (leb-false a b h)
 
-pub trials-below : (s : Search) (next : Float) → goesOn s next ≡ true → s .trials < 60
+pub trials-below : (s : S.Search) (next : Float) → goesOn s next ≡ true → s .trials < 60
 trials-below s next h = go (eq next (s .alpha)) (eq next zero64) h
   where
     go : (p q : Bool) → not (p || q || leb 60 (s .trials)) ≡ true → s .trials < 60
     go true q h = absurd (let z : _≡_ {A = ℕ} 0 1 = cc in omega arith)
     go false true h = absurd (let z : _≡_ {A = ℕ} 0 1 = cc in omega arith)
     go false false h = leb-false 60 (s .trials) (not-true _ h)
+
+-- an absent high end stands as 0 in a step that is handed back
+pub settled-step : {r : Next} {s : Search} {t : Trials} → NextSettled r → r ≡ Step s t → Settled s t
+settled-step h e = rw e at h

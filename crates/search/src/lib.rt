@@ -1,7 +1,7 @@
 // The step search along a direction: one record of floats from question to question, its trial count beside it.
 ghost use mathlib.Core.Path.{_≡_};
 ghost use Rattle.definition.specs.Search.{decreases as decreasesOf, flat as flatOf, onFace, accepts as acceptsOf, narrows as narrowsOf, lowAfter, highAfter, following as followingOf, goesOn, nextTrial, afterTrial, limited as limitedOf, withLimit};
-ghost use Rattle.search.specs.State.{searchOf, highOf, limitOf, nextOf};
+ghost use Rattle.search.specs.State.{searchOf, highOf, limitOf, nextOf, NextSettled};
 
 // The step, the two ends, the slope at the point held and the limit of the step.
 pub struct Search {
@@ -57,7 +57,7 @@ pub fn limited(t: f64, l: Limit) -> Limit
 
 // The first trial within the limit, unless there is nothing to search.
 pub fn with_limit(slope0: f64, l: Limit) -> Next
-    ensures { λ r. ⌜ nextOf r ≡ withLimit slope0 (limitOf l) ⌝ }
+    ensures { λ r. ⌜ (nextOf r ≡ withLimit slope0 (limitOf l)) × NextSettled r ⌝ }
 {
     if !float::is_finite(l.amax) {
         return Next::Nothing;
@@ -180,7 +180,7 @@ pub fn goes_on(s: Search, t: Trials, next: f64) -> bool
 
 // The trial at the step `next`, between the ends low and high.
 pub fn next_trial(s: Search, t: Trials, low: f64, high: High, next: f64) -> Next
-    ensures { λ r. ⌜ nextOf r ≡ nextTrial (searchOf s t) low (highOf high) next ⌝ }
+    ensures { λ r. ⌜ (nextOf r ≡ nextTrial (searchOf s t) low (highOf high) next) × NextSettled r ⌝ }
 {
     if !goes_on(s, t, next) {
         return Next::Nothing;
@@ -192,6 +192,7 @@ pub fn next_trial(s: Search, t: Trials, low: f64, high: High, next: f64) -> Next
     trials.count = t.count + 1;
     match high {
         High::Open => {
+            search.high = 0.0;
             trials.bracketed = false;
             Next::Step(search, trials)
         }
@@ -205,7 +206,7 @@ pub fn next_trial(s: Search, t: Trials, low: f64, high: High, next: f64) -> Next
 
 // The next trial, or none: the search has failed.
 pub fn after_trial(s: Search, t: Trials, f: f64, v: f64, slope: f64) -> Next
-    ensures { λ r. ⌜ nextOf r ≡ afterTrial (searchOf s t) f v slope ⌝ }
+    ensures { λ r. ⌜ (nextOf r ≡ afterTrial (searchOf s t) f v slope) × NextSettled r ⌝ }
 {
     let low = low_after(s, t, f, v, slope);
     let high = high_after(s, t, f, v, slope);

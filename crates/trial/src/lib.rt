@@ -8,7 +8,7 @@ ghost use Rattle.definition.specs.Search.{limitOf as limitOn, beginSearch, tria
 ghost use Rattle.definition.specs.Driver.{projectedNorm, gradientSmall, decreaseSmall, tryStep, searchAlong};
 ghost use Rattle.area.specs.Area.{Vecs, view, upd, wordsAt, X, G, Trial, Direction};
 ghost use Rattle.compact.specs.State.{Sound};
-ghost use Rattle.search.specs.State.{searchOf, limitOf, nextOf};
+ghost use Rattle.search.specs.State.{searchOf, limitOf, nextOf, Settled, NextSettled};
 ghost use Rattle.fit.specs.State.{machine, machineOf, Steps, Small};
 ghost use Rattle.trial.specs.Words.{boundsOf, trialIn, projectedIn, distanceIn};
 use counters::Termination;
@@ -97,7 +97,7 @@ fn put_trial(area: &mut [f64], n: usize, alpha: f64)
 
 // The next trial of a search: its value is asked.
 pub fn try_step(t: Fit, area: &mut [f64], s: Search, k: Trials) -> Fit
-    requires { ⌜ Sound (t .shape) (length (now area)) × Small (t .counters) ⌝ }
+    requires { ⌜ Sound (t .shape) (length (now area)) × Small (t .counters) × Settled s k ⌝ }
     ensures { λ r. ⌜ Steps (tryStep (searchOf s k)) t (now (area .entry)) r (now (area .exit)) ⌝ }
 {
     put_trial(area, t.shape.n, s.alpha);
@@ -145,7 +145,7 @@ fn limit_of(area: &[f64], n: usize) -> Limit
 // The first trial, or none: there is nothing to search.
 fn begin_search(area: &[f64], n: usize) -> Next
     requires { ⌜ 16 * n ≤ length (now area) ⌝ }
-    ensures { λ r. ⌜ nextOf r ≡ beginSearch n (boundsOf (view (now (area .entry)) n)) (view (now (area .entry)) n X) (view (now (area .entry)) n G) (view (now (area .entry)) n Direction) ⌝ }
+    ensures { λ r. ⌜ (nextOf r ≡ beginSearch n (boundsOf (view (now (area .entry)) n)) (view (now (area .entry)) n X) (view (now (area .entry)) n G) (view (now (area .entry)) n Direction)) × NextSettled r ⌝ }
 {
     let slope0 = area::dot(area, n, area::G, area::DIRECTION);
     if !float::is_finite(slope0) {

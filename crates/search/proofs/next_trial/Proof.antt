@@ -2,14 +2,16 @@
 use borrow.Author.Needs.{needs}
 use borrow.Author.Tests.{not-true, not-false}
 use mathlib.Core.Path.{sym, _∙_}
+use mathlib.Core.Bool.{true≢false}
 use native.Mathlib.Omega.{arith}
+use Rattle.float.proofs.Constants.{zero-is}
 use Rattle.search.specs.State.{searchOf}
 use Rattle.search.proofs.Laws.{trials-below}
 use Rattle.search.proofs.next_trial.Statement.{statement}
 use Rattle.search.proofs.next_trial.Tie as tie
 
 returns : tie.Need-returns
-returns c = simp (sym (c .before .goes-on .ensures) ∙ not-true _ (c .if1 .taken))
+returns c = (simp (sym (c .before .goes-on .ensures) ∙ not-true _ (c .if1 .taken)), tt)
 
 add-trials : tie.Need-add-trials
 add-trials c =
@@ -17,10 +19,13 @@ add-trials c =
     omega (arith, trials-below (searchOf (a .s) (a .t)) (a .next) (sym (c .before .before .goes-on .ensures) ∙ not-false _ (c .before .if1 .left)))
 
 returns-2 : tie.Need-returns-2
-returns-2 c = simp (sym (c .before .before .before .before .goes-on .ensures) ∙ not-false _ (c .before .before .before .if1 .left), c .enum-told .given .1)
+returns-2 c = (simp (sym (c .before .before .before .before .goes-on .ensures) ∙ not-false _ (c .before .before .before .if1 .left), c .enum-told .given .1), λ e. zero-is)
 
 returns-3 : tie.Need-returns-3
-returns-3 c = simp (sym (c .before .before .before .before .before .goes-on .ensures) ∙ not-false _ (c .before .before .before .before .if1 .left), c .before .high .given .1)
+returns-3 c = (
+  simp (sym (c .before .before .before .before .before .goes-on .ensures) ∙ not-false _ (c .before .before .before .before .if1 .left), c .before .high .given .1),
+  λ e. absurd (true≢false e),
+)
 
 pub next-trial-spec : {M : Type 1} → statement M
 next-trial-spec = tie.close (tie.spec (λ c κs. search needs) returns add-trials (λ c. search needs) (λ c. search needs) returns-2 returns-3)

@@ -2,6 +2,7 @@
 use mathlib.Core.Path.{ap}
 use borrow.Author.Needs.{needs}
 use Rattle.search.specs.State.{nextOf}
+use Rattle.search.proofs.Laws.{settled-step}
 use Rattle.fit.proofs.Laws.{still, steps-as, first-room}
 use Rattle.trial.proofs.Laws.{along}
 use Rattle.trial.proofs.search_along.Statement.{statement}
@@ -10,14 +11,20 @@ use Rattle.trial.proofs.search_along.Tie as tie
 begin-search-requires : tie.Need-begin-search-requires
 begin-search-requires c κs = first-room (c .before .before .pre .0)
 
+try-step-requires : tie.Need-try-step-requires
+try-step-requires c κs =
+    let h = c .before .before .before .before in
+    let p = h .before .before .before .pre in
+    (p .0, p .1, settled-step (h .begin-search .ensures .1) (c .before .before .next .given .1))
+
 returns : tie.Need-returns
 returns c =
-    still (c .ended .ensures) (along _ (c .before .before .before .begin-search .ensures) (ap nextOf (c .before .enum-told .given .1)))
+    still (c .ended .ensures) (along _ (c .before .before .before .begin-search .ensures .0) (ap nextOf (c .before .enum-told .given .1)))
 
 returns-2 : tie.Need-returns-2
 returns-2 c =
     let h = c .before .before .before .before .before in
-    steps-as (c .before .before .try-step .ensures) (along _ (h .before .before .begin-search .ensures) (ap nextOf (h .next .given .1)))
+    steps-as (c .before .before .try-step .ensures) (along _ (h .before .before .begin-search .ensures .0) (ap nextOf (h .next .given .1)))
 
 pub search-along-spec : {M : Type 1} → statement M
 search-along-spec =
@@ -29,6 +36,6 @@ search-along-spec =
     (λ c κs. search needs)
     (λ c. search needs)
     returns
-    (λ c κs. search needs)
+    try-step-requires
     (λ c. search needs)
     returns-2)

@@ -15,7 +15,7 @@ put-trial-requires c κs = first-room (c .before .before .pre .0)
 returns : tie.Need-returns
 unfolding tryStep
 returns c =
-    stepped (c .ask-value .ensures) refl (record { options = refl; entries = refl; words = refl }) (c .before .before .before .put-trial .ensures) refl
+    stepped (c .ask-value .ensures) refl (record { options = refl; entries = refl; words = refl; settled = λ s. c .before .before .before .before .before .before .pre .2 }) (c .before .before .before .put-trial .ensures) refl
     (let l : Trial < 16 = omega arith in rw pairs-kept)
 
 pub try-step-spec : {M : Type 1} → statement M
