@@ -1,0 +1,214 @@
+-- Laws of the test for a held fit: what it gives, when it passes, and that the fit of an accepted setup passes it. Assumes nothing.
+use Prim.Native.Nat.{ℕ, zero, suc, _+_, _*_, _≤_, _<_}
+use native.Mathlib.Omega.{arith}
+use native.Mathlib.Nat.{mul-le-mul}
+use mathlib.Core.Path.{_≡_, refl, sym, ap, _∙_, subst}
+use mathlib.Core.Bool.{Bool, true, false, cond, false≢true, _&&_}
+use mathlib.Core.List.{List, [], _∷_}
+use lib.ListN.{length, replicate}
+use lib.Ieee as Ieee
+use lib.Ieee.{Float}
+use borrow.Author.Tests.{ltb-true, leb-true, eqb-true, lt-ltb, le-leb, eq-eqb}
+use Rattle.definition.specs.Number.{zero64, one64}
+use Rattle.definition.specs.Vector.{word}
+use Rattle.definition.specs.Problem.{Setup, Terms, dimension, maxcorOf, areaWords, areaNeeded}
+use Rattle.definition.specs.Counters as C
+use Rattle.definition.specs.Machine as M
+use Rattle.definition.specs.Driver.{run}
+use Rattle.definition.specs.Log.{logWords}
+use Rattle.definition.specs.Replies.{Accepted, Due}
+use Rattle.definition.specs.Facts.{gradientsCompleted, completesGradient}
+use Rattle.definition.proofs.Accepted.{accepted-in-limits}
+use Rattle.definition.proofs.Counts.{terms-stay, counted}
+use Rattle.definition.proofs.Bound.{replies-bounded}
+use Rattle.definition.proofs.Lengths.{log-length}
+use Rattle.definition.proofs.Questions.{FactsIn, at-question}
+use Rattle.area.specs.Area.{view, X0, Lower, Upper}
+use Rattle.problem.specs.Setups.{placesIn, setupIn}
+use Rattle.counters.specs.Counts.{countersOf}
+use Rattle.compact.specs.State.{Sound}
+use Rattle.fit.specs.State.{machineOf, phaseOf, Small}
+use Rattle.fit.proofs.Laws.{model-same}
+use Rattle.fit.specs.declared.Fit.{Fit}
+use Rattle.fit.specs.declared.Phase.{Phase}
+use Rattle.fit.specs.declared.Phase.the-variants.{Value, Gradient, Probe, Notice, Ended}
+use Rattle.compact.specs.declared.Shape.{Shape}
+use Rattle.measure.specs.Ready.{Ready}
+use Rattle.question.specs.Reports.{Within}
+use Rattle.driver.specs.Replies.{markAt, shapeHeld, phaseHeld, marked, isReady, isHeld, mostCounted, mostWords, Marks}
+
+-- ---- tests that are joined
+
+pub and-l : (a b : Bool) → a && b ≡ true → a ≡ true
+and-l true b h = refl
+and-l false b h = h
+
+pub and-r : (a b : Bool) → a && b ≡ true → b ≡ true
+and-r true b h = h
+and-r false b h = absurd (false≢true h)
+
+pub and-i : (a b : Bool) → a ≡ true → b ≡ true → a && b ≡ true
+and-i a b h k = rw h k
+
+pub and-no : (a b : Bool) → b ≡ false → a && b ≡ false
+and-no true b h = h
+and-no false b h = refl
+
+-- ---- what the test gives, and when it passes
+
+record ShapeFacts (h : Shape) (size : ℕ) : Type 0 where
+  positive : 0 < h .n
+  n : h .n ≤ 64
+  some : 0 < h .m
+  few : h .m ≤ 16
+  most : h .pairs ≤ h .m
+  ring : h .oldest < h .m
+  area : areaWords (h .n) (h .m) ≤ size
+
+shape-facts : (h : Shape) (size : ℕ) → shapeHeld h size ≡ true → ShapeFacts h size
+shape-facts h size k = search (and-l, and-r, ltb-true, leb-true) depth 9
+
+facts-shape : (h : Shape) (size : ℕ) → ShapeFacts h size → shapeHeld h size ≡ true
+facts-shape h size k = search (and-i, lt-ltb, le-leb) depth 9
+
+shape-sound : {h : Shape} {size : ℕ} → ShapeFacts h size → Sound h size
+shape-sound k = omega (arith, k)
+
+-- what the test gives
+pub record ReadyFacts (t : Fit) (size : ℕ) : Type 0 where
+  pub ready : Ready t size
+  pub within : Within (t .phase) (t .shape .n)
+  pub shape : shapeHeld (t .shape) size ≡ true
+  pub positive : 0 < t .shape .n
+  pub some : 0 < t .shape .m
+  pub places : placesIn (t .options) ≡ t .shape .m
+  pub area : areaWords (t .shape .n) (t .shape .m) ≤ size
+  pub entries : t .entries < mostWords
+  pub words : t .words < mostWords
+
+held-within : (p : Phase) (n : ℕ) → phaseHeld p n ≡ true → Within p n
+held-within (Value w) n h = tt
+held-within (Gradient w) n h = tt
+held-within (Probe w i s) n h = ltb-true i n h
+held-within Notice n h = tt
+held-within (Ended t) n h = tt
+
+within-held : (p : Phase) (n : ℕ) → Within p n → phaseHeld p n ≡ true
+within-held (Value w) n h = refl
+within-held (Gradient w) n h = refl
+within-held (Probe w i s) n h = lt-ltb i n h
+within-held Notice n h = refl
+within-held (Ended t) n h = refl
+
+pub ready-facts : (t : Fit) (size : ℕ) → isReady t size ≡ true → ReadyFacts t size
+unfolding isReady
+ready-facts t size h =
+    let shape : shapeHeld (t .shape) size ≡ true = search (and-l, h) in
+    let k = shape-facts (t .shape) size shape in
+    let sound = shape-sound k in
+    search (k, held-within, and-l, and-r, ltb-true, eqb-true) depth 9
+
+pub facts-ready : (t : Fit) (size : ℕ) → ReadyFacts t size → isReady t size ≡ true
+unfolding isReady
+facts-ready t size h =
+    let phase = within-held (t .phase) (t .shape .n) (h .within) in
+    search (and-i, lt-ltb, eq-eqb, h) depth 9
+
+pub held-ready : (t : Fit) (a : List Float) → isHeld t a ≡ true → isReady t (length a) ≡ true
+unfolding isHeld
+held-ready t a h = and-l (isReady t (length a)) (marked (t .shape) a) h
+
+pub held-marked : (t : Fit) (a : List Float) → isHeld t a ≡ true → marked (t .shape) a ≡ true
+unfolding isHeld
+held-marked t a h = and-r (isReady t (length a)) (marked (t .shape) a) h
+
+pub is-held : (t : Fit) (a : List Float) → isReady t (length a) ≡ true → marked (t .shape) a ≡ true → isHeld t a ≡ true
+unfolding isHeld
+is-held t a h k = and-i (isReady t (length a)) (marked (t .shape) a) h k
+
+-- a shape that keeps n and m and stays sound passes again
+pub shape-again : (h g : Shape) (size : ℕ) → shapeHeld h size ≡ true → g .n ≡ h .n → g .m ≡ h .m → Sound g size → shapeHeld g size ≡ true
+shape-again h g size k n m s =
+    let f = shape-facts h size k in
+    let area : areaWords (g .n) (g .m) ≤ size = rw (n, m) (f .area) in
+    facts-shape g size (omega (arith, f, s))
+
+-- the mark touches no vector of the machine
+pub marked-machine : (t : Fit) (a b : List Float) → Sound (t .shape) (length a) → Marks (t .shape) a b → machineOf t b ≡ machineOf t a
+marked-machine t a b s h = model-same t s (λ q l. h .kept q (omega arith)) (λ q k l. h .kept q (omega arith))
+
+-- ---- the fit of an accepted setup
+
+one-most : (b : Bool) → cond b 1 0 ≤ 1
+one-most true = omega arith
+one-most false = omega arith
+
+-- a reply completes at most one gradient
+pub completed-most : (s : Setup) (rs : List M.Reply) → gradientsCompleted s rs ≤ length rs
+unfolding gradientsCompleted
+completed-most s [] = omega arith
+completed-most s (r ∷ rs) = omega (arith, completed-most s rs, one-most (completesGradient (run s rs) r))
+
+-- the coordinate of an open probe is below n
+facts-within : (m : M.Machine) (p : Phase) → FactsIn m (phaseOf p) → Within p (m .terms .n)
+facts-within m (Value w) f = tt
+facts-within m (Gradient w) f = tt
+facts-within m (Probe w i s) f = f .1
+facts-within m Notice f = tt
+facts-within m (Ended t) f = tt
+
+-- no count is above the number of replies or its budget
+counts-small :
+    (t : Fit) (s : Setup) (rs : List M.Reply) → Accepted s → Due s rs → countersOf (t .counters) ≡ run s rs .counters
+    → Small (t .counters) × (t .counters .njev < mostCounted)
+counts-small t s rs c d e =
+    let nit : t .counters .nit ≡ run s rs .counters .nit = ap (λ (k : C.Counters). k .nit) e in
+    let njev : t .counters .njev ≡ run s rs .counters .njev = ap (λ (k : C.Counters). k .njev) e in
+    let drawn : t .counters .drawn ≡ run s rs .counters .drawn = ap (λ (k : C.Counters). k .drawn) e in
+    omega (arith, counted s rs c d, accepted-in-limits s c, completed-most s rs, replies-bounded s rs c d)
+
+log-few : (s : Setup) (rs : List M.Reply) → Accepted s → Due s rs → length (logWords rs) < mostWords
+log-few s rs c d =
+    let l = accepted-in-limits s c in
+    let n : 3 + dimension s ≤ 67 = omega (arith, l .coordinates .1) in
+    omega (arith, log-length s rs c d, mul-le-mul n (l .maxfev .1), l .maxiter .1)
+
+-- the fit of an accepted setup and replies that were due passes the test
+pub run-ready : (t : Fit) (size : ℕ) (a : List Float) (s : Setup) (rs : List M.Reply) → Accepted s → Due s rs → machineOf t a ≡ run s rs
+    → setupIn (t .options) (view a (t .shape .n) X0) (view a (t .shape .n) Lower) (view a (t .shape .n) Upper) ≡ s
+    → Sound (t .shape) size → areaNeeded s ≤ size → t .entries ≡ length rs → t .words ≡ length (logWords rs) → isReady t size ≡ true
+run-ready t size a s rs c d e o h z n w =
+    let l = accepted-in-limits s c in
+    let replies = replies-bounded s rs c d in
+    let terms = ap (λ (m : M.Machine). m .terms) e ∙ terms-stay s rs d in
+    let coordinates : t .shape .n ≡ dimension s = ap (λ (x : Terms). x .n) terms in
+    let places : t .shape .m ≡ maxcorOf s = ap (λ (x : Terms). x .maxcor) terms in
+    let area : areaWords (t .shape .n) (t .shape .m) ≤ size = rw (coordinates, places) z in
+    let shape : ShapeFacts (t .shape) size = omega (arith, h, l) in
+    let small = counts-small t s rs c d (ap (λ (m : M.Machine). m .counters) e) in
+    let facts = subst (λ (m : M.Machine). FactsIn m (m .phase)) (sym e) (at-question s c rs d .facts) in
+    facts-ready t size
+    (record {
+      ready = record { sound = h; small = small .0; njev = small .1; n = shape .n };
+      within = facts-within (machineOf t a) (t .phase) facts;
+      shape = facts-shape (t .shape) size shape;
+      positive = shape .positive;
+      some = shape .some;
+      places = ap maxcorOf o ∙ sym places;
+      area = area;
+      entries = omega (arith, l);
+      words = omega (arith, log-few s rs c d);
+    })
+
+-- ---- an area of zeros
+
+zero-unmarked : (k i : ℕ) → Ieee.eq (word (replicate k zero64) i) one64 ≡ false
+unfolding Ieee.eq
+zero-unmarked zero i = refl
+zero-unmarked (suc k) zero = refl
+zero-unmarked (suc k) (suc i) = zero-unmarked k i
+
+-- an area of zeros holds no fit
+pub zeroed-unheld : (t : Fit) (k : ℕ) → isHeld t (replicate k zero64) ≡ false
+unfolding isHeld
+zeroed-unheld t k = and-no (isReady t (length (replicate k zero64))) (marked (t .shape) (replicate k zero64)) (zero-unmarked k (markAt (t .shape)))

@@ -1,0 +1,40 @@
+-- `driver::is_held` meets its contract: the test of the state, then the mark. Assumes nothing.
+use mathlib.Core.Path.{sym, _∙_}
+use native.Mathlib.Omega.{arith}
+use borrow.Author.Tests.{not-true, not-false}
+use borrow.Author.Needs.{needs}
+use denote.Ref.{now}
+use lib.ListN.{length}
+use Rattle.float.proofs.Constants.{one-is}
+use Rattle.driver.proofs.Steps.{Behind, ready-shape, unready-unheld, ready-marked, mark-behind}
+use Rattle.driver.proofs.is_held.Statement.{statement}
+use Rattle.driver.proofs.is_held.Tie as tie
+
+place : (c : tie.Else1) → (let s = c .before .before .before in Behind (s .args .t .shape) (length (now (s .args .area))))
+place c = mark-behind _ _ (ready-shape _ _ (sym (c .before .is-ready .ensures) ∙ not-false _ (c .if1 .left)))
+
+returns : tie.Need-returns
+returns c = unready-unheld _ _ (sym (c .before .is-ready .ensures) ∙ not-true _ (c .if1 .taken))
+
+mul-result : tie.Need-mul-result
+mul-result c = omega (arith, place (c .before .before) .m)
+
+add-result : tie.Need-add-result
+add-result c = omega (arith, place (c .before .before) .m)
+
+mul-result-2 : tie.Need-mul-result-2
+mul-result-2 c = omega (arith, place (c .before .before .before) .most)
+
+mul-result-3 : tie.Need-mul-result-3
+mul-result-3 c = omega (arith, place (c .before .before .before) .most)
+
+read : tie.Need-shared-slice-read-result
+read c = place (c .before .before .before .before) .room
+
+returns-2 : tie.Need-returns-2
+returns-2 c =
+    let b = c .before .before .before .before in
+    ready-marked _ _ _ one-is (sym (b .before .is-ready .ensures) ∙ not-false _ (b .if1 .left))
+
+pub is-held-spec : {M : Type 1} → statement M
+is-held-spec = tie.close (tie.spec (λ c κs. search needs) returns mul-result add-result mul-result-2 mul-result-3 read returns-2)

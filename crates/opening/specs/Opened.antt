@@ -1,0 +1,103 @@
+-- The opening: a setup stands in the options of a fit and three vectors of its area, and the fit is at its first question.
+use Prim.Native.Nat.{ℕ, _+_, _*_, _≤_, _<_}
+use mathlib.Core.Path.{_≡_}
+use mathlib.Core.Bool.{Bool, true, false}
+use mathlib.Core.List.{List}
+use lib.ListN.{length}
+use lib.Ieee.{Float}
+use Rattle.definition.specs.Number.{zero64}
+use Rattle.definition.specs.Vector.{tab, word, zeros}
+use Rattle.definition.specs.Problem as P
+use Rattle.definition.specs.Compact.{noPairs}
+use Rattle.definition.specs.Counters.{firstCounters}
+use Rattle.definition.specs.Machine as M
+use Rattle.definition.specs.Driver as D
+use Rattle.area.specs.Area.{Vecs, view, upd, X, G, Lower, Upper, X0, Trial, TrialGradient, Direction}
+use Rattle.problem.specs.declared.Options.{Options}
+use Rattle.problem.specs.Setups.{setupIn, boundsIn, placesIn, limitsIn, floatOf, schemeOf, boxOf}
+use Rattle.search.specs.declared.Trials.{Trials}
+use Rattle.compact.specs.declared.Shape.{Shape}
+use Rattle.compact.specs.State.{Sound}
+use Rattle.search.specs.State.{Settled}
+use Rattle.fit.specs.State.{machine, machineOf}
+use Rattle.fit.specs.declared.Fit.{Fit}
+
+-- the setup that options and vectors hold
+abbrev pub setupAt : Options → Vecs → P.Setup
+setupAt o v = setupIn o (v X0) (v Lower) (v Upper)
+
+-- room for n coordinates and the pairs that the options allow
+pub record Room (o : Options) (n size : ℕ) : Type 0 where
+  pub all : (16 + 4 * placesIn o) * n ≤ size
+  pub few : placesIn o ≤ 16
+  pub some : 0 < placesIn o
+
+-- the bounds are as long as the start, where they count
+pub record Fits (o : Options) (n : ℕ) (l u : List Float) : Type 0 where
+  pub lower : o .bounded ≡ true → length l ≡ n
+  pub upper : o .bounded ≡ true → length u ≡ n
+
+-- ---- the vectors
+
+-- bounds that hold nothing back, where there are none
+abbrev pub boxed : Bool → ℕ → Vecs → Vecs
+boxed true n v = v
+boxed false n v = upd (upd v Lower (P.openBounds n .lower)) Upper (P.openBounds n .upper)
+
+-- the start, brought into the box
+abbrev pub clipped : ℕ → Vecs → List Float
+clipped n v = tab n (λ i. P.inBox (boxOf (v Lower) (v Upper)) i (word (v X0) i))
+
+-- a setup's start and bounds stand in the vectors v
+pub record Stored (bounded : Bool) (x0 l u : List Float) (v : Vecs) : Type 0 where
+  pub start : v X0 ≡ x0
+  pub bounds : boundsIn bounded (v Lower) (v Upper) ≡ boundsIn bounded l u
+
+-- every vector that is read before it is next written
+abbrev pub firstVectors : ℕ → Vecs → Vecs
+firstVectors n v =
+    upd (upd (upd (upd (upd v X (clipped n v)) Trial (clipped n v)) G (zeros n)) TrialGradient (zeros n)) Direction (zeros n)
+
+-- ---- the state at the first question
+
+abbrev pub noTrials : Trials
+noTrials = record { count = 0; face = false; bracketed = false }
+
+abbrev pub firstShape : Options → ℕ → Shape
+firstShape o n = record { n = n; m = placesIn o; pairs = 0; oldest = 0 }
+
+-- the machine at the first question, its vectors as they stand
+abbrev pub firstMachine : Options → ℕ → Vecs → M.Machine
+firstMachine o n v = record {
+  terms = record { n = n; bounds = boxOf (v Lower) (v Upper); maxcor = placesIn o; eps = floatOf (o .eps); scheme = schemeOf (o .scheme) };
+  limits = limitsIn o;
+  held = M.state (v X) zero64 (v G);
+  compact = noPairs;
+  trial = M.state (v Trial) zero64 (v TrialGradient);
+  direction = v Direction;
+  search = D.noSearch;
+  rightValue = zero64;
+  before = zero64;
+  counters = firstCounters;
+  phase = M.Phase.value M.Place.start;
+}
+
+pub record First (o : Options) (n : ℕ) (r : Fit) : Type 0 where
+  pub options : r .options ≡ o
+  pub entries : r .entries ≡ 0
+  pub words : r .words ≡ 0
+  pub shape : r .shape ≡ firstShape o n
+  pub settled : Settled (r .search) (r .trials)
+  pub is : (v : Vecs) → machine r v ≡ firstMachine o n v
+
+-- r with the area b is the machine that the setup s begins with, and s can be read off them again
+pub record Opened (o : Options) (k : ℕ) (s : P.Setup) (size : ℕ) (r : Fit) (b : List Float) : Type 0 where
+  pub options : r .options ≡ o
+  pub entries : r .entries ≡ 0
+  pub words : r .words ≡ 0
+  pub n : r .shape .n ≡ k
+  pub m : r .shape .m ≡ placesIn o
+  pub sound : Sound (r .shape) size
+  pub settled : Settled (r .search) (r .trials)
+  pub setup : setupAt o (view b k) ≡ s
+  pub is : machineOf r b ≡ D.begin s

@@ -1,0 +1,134 @@
+// The opening of a fit: its setup into options and area, and the machine at its first question.
+ghost use mathlib.Core.Path.{_≡_};
+ghost use Prim.Native.Nat.{_*_, _≤_};
+ghost use mathlib.Core.Bool.{true};
+ghost use lib.ListN.{length};
+ghost use Rattle.definition.specs.Driver.{noSearch};
+ghost use Rattle.area.specs.Area.{view, upd, X};
+ghost use Rattle.problem.specs.Setups.{setupIn};
+ghost use Rattle.search.specs.State.{searchOf, Settled};
+ghost use Rattle.opening.specs.Opened.{setupAt, Room, Fits, boxed, clipped, firstVectors, noTrials, First, Stored, Opened};
+use compact::Shape;
+use fit::Fit;
+use fit::Phase;
+use fit::Place;
+use problem::Options;
+use search::Search;
+use search::Trials;
+
+// Bounds that hold nothing back, where the setup has none.
+fn open_box(area: &mut [f64], n: usize, bounded: bool)
+    requires { ⌜ 16 * n ≤ length (now area) ⌝ }
+    ensures { λ _. ⌜ view (now (area .exit)) n ≡ boxed bounded n (view (now (area .entry)) n) ⌝ }
+{
+    if bounded {
+        return;
+    }
+    area::fill(area, n, area::LOWER, float::neg_infinity());
+    area::fill(area, n, area::UPPER, float::infinity());
+}
+
+// The start brought into the box.
+fn clip_start(area: &mut [f64], n: usize)
+    requires { ⌜ 16 * n ≤ length (now area) ⌝ }
+    ensures { λ _. ⌜ (let v = view (now (area .entry)) n in view (now (area .exit)) n ≡ upd v X (clipped n v)) ⌝ }
+{
+    let mut i = 0;
+    while i < n {
+        let x0 = area[area::X0 * n + i];
+        let low = area[area::LOWER * n + i];
+        let high = area[area::UPPER * n + i];
+        area[area::X * n + i] = float::clamp(x0, low, high);
+        i += 1;
+    }
+}
+
+// Every vector that is read before it is next written.
+fn first_vectors(area: &mut [f64], n: usize)
+    requires { ⌜ 16 * n ≤ length (now area) ⌝ }
+    ensures { λ _. ⌜ view (now (area .exit)) n ≡ firstVectors n (view (now (area .entry)) n) ⌝ }
+{
+    clip_start(area, n);
+    area::copy(area, n, area::TRIAL, area::X);
+    area::fill(area, n, area::G, 0.0);
+    area::fill(area, n, area::TRIAL_GRADIENT, 0.0);
+    area::fill(area, n, area::DIRECTION, 0.0);
+}
+
+fn no_search() -> Search
+    ensures { λ r. ⌜ (searchOf r noTrials ≡ noSearch) × Settled r noTrials ⌝ }
+{
+    Search {
+        alpha: 0.0,
+        low: 0.0,
+        high: 0.0,
+        slope0: 0.0,
+        amax: 0.0,
+    }
+}
+
+// The state at the first question.
+fn first_fit(o: Options, n: usize) -> Fit
+    ensures { λ r. ⌜ First o n r ⌝ }
+{
+    let limits = problem::in_force(o);
+    let counters = counters::first_counters();
+    let search = no_search();
+    Fit {
+        shape: Shape {
+            n: n,
+            m: problem::places(o),
+            pairs: 0,
+            oldest: 0,
+        },
+        options: o,
+        limits: limits,
+        counters: counters,
+        phase: Phase::Value(Place::Start),
+        search: search,
+        trials: Trials {
+            count: 0,
+            face: false,
+            bracketed: false,
+        },
+        value: 0.0,
+        trial: 0.0,
+        right: 0.0,
+        before: 0.0,
+        theta: 1.0,
+        entries: 0,
+        words: 0,
+    }
+}
+
+// From the setup that stands in options and area, whatever else the area holds.
+pub fn reset(o: Options, area: &mut [f64], n: usize) -> Fit
+    requires { ⌜ Room o n (length (now area)) ⌝ }
+    ensures { λ r. ⌜ Opened o n (setupAt o (view (now (area .entry)) n)) (length (now (area .entry))) r (now (area .exit)) ⌝ }
+{
+    open_box(area, n, o.bounded);
+    first_vectors(area, n);
+    first_fit(o, n)
+}
+
+// A setup's vectors into the area: the bounds only where they count.
+fn store_setup(area: &mut [f64], n: usize, bounded: bool, x0: &[f64], lower: &[f64], upper: &[f64])
+    requires { ⌜ (16 * n ≤ length (now area)) × (length (now x0) ≡ n) × (bounded ≡ true → length (now lower) ≡ n) × (bounded ≡ true → length (now upper) ≡ n) ⌝ }
+    ensures { λ _. ⌜ Stored bounded (now (x0 .entry)) (now (lower .entry)) (now (upper .entry)) (view (now (area .exit)) n) ⌝ }
+{
+    area::store(area, n, area::X0, x0);
+    if bounded {
+        area::store(area, n, area::LOWER, lower);
+        area::store(area, n, area::UPPER, upper);
+    }
+}
+
+// From a setup: no word of the area that is ever read stays from before.
+pub fn begin(o: Options, area: &mut [f64], x0: &[f64], lower: &[f64], upper: &[f64]) -> Fit
+    requires { ⌜ Room o (length (now x0)) (length (now area)) × Fits o (length (now x0)) (now lower) (now upper) ⌝ }
+    ensures { λ r. ⌜ Opened o (length (now (x0 .entry))) (setupIn o (now (x0 .entry)) (now (lower .entry)) (now (upper .entry))) (length (now (area .entry))) r (now (area .exit)) ⌝ }
+{
+    let n = x0.len();
+    store_setup(area, n, o.bounded, x0, lower, upper);
+    reset(o, area, n)
+}

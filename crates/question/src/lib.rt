@@ -1,0 +1,168 @@
+// The open question, and the report.
+ghost use mathlib.Core.Path.{_≡_};
+ghost use Prim.Native.Nat.{_+_, _*_, _≤_, _<_};
+ghost use lib.ListN.{length};
+ghost use Rattle.definition.specs.Gradient.{probesAt};
+ghost use Rattle.definition.specs.Machine.{probePoint, kindOf, statusOf, unreported as unreportedIn, question as questionOf, report as reportIn};
+ghost use Rattle.area.specs.Area.{Vecs, view, Trial, X};
+ghost use Rattle.compact.specs.State.{Sound};
+ghost use Rattle.gradient.specs.Probing.{probesIn};
+ghost use Rattle.fit.specs.State.{machine, machineOf, phaseOf, sideOf};
+ghost use Rattle.question.specs.Reports.{Within, pointAsked, written, probeWord, reportOf};
+use counters::Termination;
+use fit::Fit;
+use fit::Phase;
+use fit::Place;
+use fit::Side;
+use gradient::Probes;
+
+// `Outcome`: the report but for its point.
+pub struct Outcome {
+    pub status: usize,
+    pub value: f64,
+    pub nit: usize,
+    pub nfev: usize,
+    pub njev: usize,
+    pub drawn: usize,
+}
+
+// ---- the question
+
+// 1 value, 2 gradient, 3 iteration notice, 0 nothing.
+pub fn kind_of(p: Phase) -> usize
+    ensures { λ r. ⌜ r ≡ kindOf (phaseOf p) ⌝ }
+{
+    match p {
+        Phase::Value(_) => 1,
+        Phase::Gradient(_) => 2,
+        Phase::Probe(_, _, _) => 1,
+        Phase::Notice => 3,
+        Phase::Ended(_) => 0,
+    }
+}
+
+// What is probed of coordinate i of the trial point.
+pub fn probes_at(t: Fit, area: &[f64], i: usize) -> Probes
+    requires { ⌜ Sound (t .shape) (length (now area)) × (i < t .shape .n) ⌝ }
+    ensures { λ r. ⌜ probesIn r ≡ probesAt (machineOf t (now (area .entry)) .terms) (view (now (area .entry)) (t .shape .n) Trial) i ⌝ }
+{
+    let n = t.shape.n;
+    let o = t.options;
+    let eps = o.eps;
+    let scheme = o.scheme;
+    let x = area[area::TRIAL * n + i];
+    let low = area[area::LOWER * n + i];
+    let high = area[area::UPPER * n + i];
+    gradient::probes_between(eps, scheme, x, low, high)
+}
+
+// Vector p into the front of an output slice.
+fn copy_out(area: &[f64], n: usize, p: usize, out: &mut [f64])
+    requires { ⌜ (p * n + n ≤ length (now area)) × (n ≤ length (now out)) ⌝ }
+    ensures { λ _. ⌜ now (out .exit) ≡ written (view (now (area .entry)) n p) (now (out .entry)) ⌝ }
+{
+    let from = p * n;
+    let mut i = 0;
+    while i < n {
+        out[i] = area[from + i];
+        i += 1;
+    }
+}
+
+// Coordinate i of a probe's point: x where nothing is probed.
+fn probe_word(p: Probes, side: Side, x: f64) -> f64
+    ensures { λ r. ⌜ r ≡ probeWord (probesIn p) (sideOf side) x ⌝ }
+{
+    match p {
+        Probes::Neither => x,
+        Probes::Both(r, l) => match side {
+            Side::Right => r,
+            Side::Left => l,
+        },
+        Probes::RightOnly(r) => r,
+        Probes::LeftOnly(l) => l,
+    }
+}
+
+// The point of a probe of coordinate i.
+fn put_probe(t: Fit, area: &[f64], i: usize, side: Side, out: &mut [f64])
+    requires { ⌜ Sound (t .shape) (length (now area)) × (i < t .shape .n) × (t .shape .n ≤ length (now out)) ⌝ }
+    ensures { λ _. ⌜ (let x = view (now (area .entry)) (t .shape .n) Trial in now (out .exit) ≡ written (probePoint (probesAt (machineOf t (now (area .entry)) .terms) x i) (sideOf side) i x) (now (out .entry))) ⌝ }
+{
+    let n = t.shape.n;
+    copy_out(area, n, area::TRIAL, out);
+    let p = probes_at(t, area, i);
+    let x = out[i];
+    out[i] = probe_word(p, side, x);
+}
+
+// The point of the open question; nothing where there is none.
+pub fn put_question(t: Fit, area: &[f64], out: &mut [f64])
+    requires { ⌜ Sound (t .shape) (length (now area)) × Within (t .phase) (t .shape .n) × (t .shape .n ≤ length (now out)) ⌝ }
+    ensures { λ _. ⌜ now (out .exit) ≡ written (pointAsked (questionOf (machineOf t (now (area .entry))))) (now (out .entry)) ⌝ }
+{
+    let n = t.shape.n;
+    let p = t.phase;
+    match p {
+        Phase::Value(_) => copy_out(area, n, area::TRIAL, out),
+        Phase::Gradient(_) => copy_out(area, n, area::TRIAL, out),
+        Phase::Probe(_, i, side) => put_probe(t, area, i, side, out),
+        Phase::Notice => copy_out(area, n, area::X, out),
+        Phase::Ended(_) => {}
+    }
+}
+
+// ---- the report
+
+// 0 while the fit is running.
+pub fn status_of(p: Phase) -> usize
+    ensures { λ r. ⌜ r ≡ statusOf (phaseOf p) ⌝ }
+{
+    match p {
+        Phase::Value(_) => 0,
+        Phase::Gradient(_) => 0,
+        Phase::Probe(_, _, _) => 0,
+        Phase::Notice => 0,
+        Phase::Ended(why) => counters::status_number(why),
+    }
+}
+
+// No value reply yet, or the objective failed: there is no report.
+pub fn unreported(p: Phase) -> bool
+    ensures { λ r. ⌜ r ≡ unreportedIn (phaseOf p) ⌝ }
+{
+    match p {
+        Phase::Value(w) => match w {
+            Place::Start => true,
+            Place::Trial => false,
+        },
+        Phase::Gradient(_) => false,
+        Phase::Probe(_, _, _) => false,
+        Phase::Notice => false,
+        Phase::Ended(why) => counters::status_number(why) == 8,
+    }
+}
+
+// The numbers of the report.
+pub fn outcome_of(t: Fit) -> Outcome
+    ensures { λ r. ⌜ ((v : Vecs) → reportOf r (v X) ≡ reportIn (machine t v)) ⌝ }
+{
+    let p = t.phase;
+    let k = t.counters;
+    Outcome {
+        status: status_of(p),
+        value: t.value,
+        nit: k.nit,
+        nfev: k.nfev,
+        njev: k.njev,
+        drawn: k.drawn,
+    }
+}
+
+// The point held.
+pub fn put_point(t: Fit, area: &[f64], out: &mut [f64])
+    requires { ⌜ Sound (t .shape) (length (now area)) × (t .shape .n ≤ length (now out)) ⌝ }
+    ensures { λ _. ⌜ now (out .exit) ≡ written (machineOf t (now (area .entry)) .held .x) (now (out .entry)) ⌝ }
+{
+    copy_out(area, t.shape.n, area::X, out);
+}

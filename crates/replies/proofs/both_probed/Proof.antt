@@ -1,0 +1,32 @@
+-- `replies::both_probed` meets its contract: right of the coordinate, then left of it. Assumes nothing.
+use mathlib.Core.Path.{refl}
+use borrow.Author.Needs.{needs}
+use Rattle.fit.proofs.Laws.{turns-then, still, small-turned}
+use Rattle.replies.proofs.Laws.{component-as}
+use Rattle.replies.proofs.both_probed.Statement.{statement}
+use Rattle.replies.proofs.both_probed.Tie as tie
+
+ask-value-requires : tie.Need-ask-value-requires
+ask-value-requires c κs = small-turned (c .with-right .ensures) (λ m. refl) (c .before .before .before .before .pre .0 .small) .drawn
+
+returns : tie.Need-returns
+returns c = rw (c .before .before .enum-told .given .1) (still (turns-then (c .before .with-right .ensures) (c .ask-value .ensures)) refl)
+
+returns-2 : tie.Need-returns-2
+returns-2 c =
+    rw (c .before .before .before .before .before .enum-told2 .given .1)
+    (component-as _ _ (c .before .before .probed-to .ensures) (c .before .before .before .before .both-quotient .ensures) refl)
+
+pub both-probed-spec : {M : Type 1} → statement M
+both-probed-spec =
+    tie.close
+    (tie.spec
+    (λ c. search needs)
+    (λ c κs. search needs)
+    ask-value-requires
+    (λ c. search needs)
+    (λ c κs. search needs)
+    (λ c κs. search needs)
+    returns
+    (λ c. search needs)
+    returns-2)

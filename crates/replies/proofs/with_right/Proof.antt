@@ -1,0 +1,11 @@
+-- `replies::with_right` meets its contract. Assumes nothing.
+use mathlib.Core.Path.{refl}
+use Rattle.replies.proofs.with_right.Statement.{statement}
+use Rattle.replies.proofs.with_right.Tie as tie
+
+returns : tie.Need-returns
+returns c =
+    record { shape = refl; kept = record { options = refl; entries = refl; words = refl; settled = λ s. s }; is = λ v. refl }
+
+pub with-right-spec : {M : Type 1} → statement M
+with-right-spec = tie.close (tie.spec returns)
