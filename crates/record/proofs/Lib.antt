@@ -1,0 +1,5 @@
+pub mod Words
+pub mod Reading
+pub mod Floats
+pub mod Saving
+pub mod Entry

@@ -1,0 +1,288 @@
+-- Laws of a replay: whether an entry is admitted, what taking it leaves, and what holds after each. Assumes nothing.
+use mathlib.Core.Path.{_≡_, refl, sym, ap, ap₂, _∙_, subst}
+use mathlib.Core.Bool.{Bool, true, false, _&&_, true≢false}
+use mathlib.Core.Logic.{_⊎_, inl, inr}
+use mathlib.Core.List.{List, [], _∷_, _++_, append-assoc}
+use mathlib.Core.Option.{none}
+use Prim.Native.Nat.{ℕ, suc, _+_, _≤_, _<_}
+use native.Mathlib.Omega.{arith}
+use borrow.Author.Tests.{ltb-true, ltb-false, lt-ltb, le-ltb}
+use lib.Dec.{ltb}
+use lib.ListN.{length, getD, drop}
+use lib.Ieee.{Float}
+use Rattle.definition.specs.Problem as P
+use Rattle.definition.specs.Problem.{areaWords, areaNeeded}
+use Rattle.definition.specs.Machine as M
+use Rattle.definition.specs.Driver as D
+use Rattle.definition.specs.Driver.{begin, run}
+use Rattle.definition.specs.Log.{Entries, entryOf, entryWords, logWords}
+use Rattle.definition.specs.Replies.{Accepted}
+use Rattle.definition.proofs.Entries.{log-more}
+use Rattle.area.specs.Area.{view, X0}
+use Rattle.compact.specs.State.{Sound}
+use Rattle.problem.specs.Setups.{setupIn}
+use Rattle.search.specs.State.{Settled}
+use Rattle.fit.specs.State.{machineOf, phaseOf, Steps}
+use Rattle.fit.specs.declared.Fit.{Fit}
+use Rattle.driver.specs.Replies.{shapeHeld, isReady, replyOf}
+use Rattle.driver.specs.declared.Reply.{Reply}
+use Rattle.driver.proofs.Laws.{ready-facts, shape-again, run-ready}
+use Rattle.replay.specs.declared.Replayed.{Replayed}
+use Rattle.replay.specs.declared.Replayed.the-variants.{Done, Refused}
+use Rattle.replay.specs.Replays.{withLog, oneMore, afterEntries, firstEntries, setupHeld, ReplayedTo, Replays}
+use Rattle.replay.specs.Taken.{replied, gradientAt, Reads, isDue, admission, Took, RefusedBy, NextIs}
+use Rattle.replay.proofs.Entries.{reads-count, words-some, suits-replied, suits-any, due-checked, next-bad, next-undue, next-short, next-going}
+use Rattle.replay.proofs.Answers.{terms-stay}
+
+-- ---- admission
+
+pub due-is : (t : Fit) (r : Reply) (a : List Float) (k : ℕ) (b : Bool) → k ≡ M.kindOf (phaseOf (t .phase)) → ((m : M.Machine) → b ≡ M.suits k (replyOf r m)) → b ≡ isDue t r
+due-is t r a k b e h = h (machineOf t a) ∙ suits-replied k r (machineOf t a) [] ∙ ap (λ (i : ℕ). M.suits i (replied r [])) e
+
+module _ (ready due : Bool) (room words l : ℕ) where
+  pub not-ready : ready ≡ false → 17 ≡ admission (ready && due) (ltb room (words + l))
+  not-ready h = simp h
+
+  pub not-due : ready ≡ true → due ≡ false → 17 ≡ admission (ready && due) (ltb room (words + l))
+  not-due h d = simp (h, d)
+
+  pub no-room : ready ≡ true → due ≡ true → room < words + l → 12 ≡ admission (ready && due) (ltb room (words + l))
+  no-room h d s = simp (h, d, lt-ltb room (words + l) s)
+
+  pub room-left : ready ≡ true → due ≡ true → words + l ≤ room → 0 ≡ admission (ready && due) (ltb room (words + l))
+  room-left h d s = simp (h, d, le-ltb room (words + l) s)
+
+admitted-as : (ready due short : Bool) (c : ℕ) → c ≡ admission (ready && due) short → c ≡ 0 → (ready ≡ true) × (due ≡ true) × (short ≡ false)
+admitted-as true true false c e z = (refl, refl, refl)
+admitted-as true true true c e z = absurd (omega arith)
+admitted-as true false short c e z = absurd (omega arith)
+admitted-as false due short c e z = absurd (omega arith)
+
+-- an entry that is admitted: the fit passes the test, the reply is due, and there is room
+pub record Admitted (t : Fit) (size : ℕ) (r : Reply) (l room : ℕ) : Type 0 where
+  pub ready : isReady t size ≡ true
+  pub due : isDue t r ≡ true
+  pub fits : t .words + l ≤ room
+
+module _ (t : Fit) (a : List Float) (ws : List ℕ) (room : ℕ) (here : t .words < length ws) where
+  -- an entry that is none
+  pub bad-refused : entryOf (t .shape .n) (getD ws (t .words) 0) (drop (t .words + 1) ws) ≡ none → RefusedBy t a ws room 17
+  bad-refused e = record { code = inl refl; next = λ ready rs w. next-bad room ws rs (machineOf t a) (t .words) here e }
+
+  module _ (r : Reply) (l : ℕ) (h : Reads (t .shape .n) ws (t .words) r l) where
+    abbrev reply : M.Reply
+    reply = replied r (gradientAt (t .shape .n) ws (t .words))
+
+    takes-due : M.takes (machineOf t a) reply ≡ isDue t r
+    takes-due = suits-any (M.kindOf (phaseOf (t .phase))) r (gradientAt (t .shape .n) ws (t .words)) []
+
+    pub admitted-is : (c : ℕ) → c ≡ admission (isReady t (length a) && isDue t r) (ltb room (t .words + l)) → c ≡ 0 → Admitted t (length a) r l room
+    admitted-is c e z =
+        let k = admitted-as (isReady t (length a)) (isDue t r) (ltb room (t .words + l)) c e z in
+        record { ready = k .0; due = k .1; fits = ltb-false room (t .words + l) (k .2) }
+
+    -- an entry that is not due, or has no room
+    pub refused-is : (c : ℕ) → c ≡ admission (isReady t (length a) && isDue t r) (ltb room (t .words + l)) → (c ≡ 0 → ⊥) → RefusedBy t a ws room c
+    refused-is c e z = go (isReady t (length a)) (isDue t r) (ltb room (t .words + l)) refl refl refl e
+      where
+        go : (ready due short : Bool) → isReady t (length a) ≡ ready → isDue t r ≡ due → ltb room (t .words + l) ≡ short
+            → c ≡ admission (ready && due) short → RefusedBy t a ws room c
+        go true true false f g k e = absurd (z e)
+        go true true true f g k e =
+            rw e
+            (record {
+              code = inr (refl, omega (arith, ltb-true room (t .words + l) k, h .within));
+              next = λ ready rs w. next-short room ws rs (machineOf t a) (t .words) r l h here (takes-due ∙ g) w (ltb-true room (t .words + l) k);
+            })
+        go true false short f g k e =
+            rw e (record { code = inl refl; next = λ ready rs w. next-undue room ws rs (machineOf t a) (t .words) r l h here (takes-due ∙ g) })
+        go false due short f g k e = rw e (record { code = inl refl; next = λ ready rs w. absurd (true≢false (sym ready ∙ f)) })
+
+    -- an entry that is taken, and counted
+    pub took : {f g : Fit} {b : List Float} → Admitted t (length a) r l room → length b ≡ length a → Steps (λ (m : M.Machine). D.answer m reply) t a f b
+        → g ≡ withLog (f .entries + 1) (f .words + l) f → Took t a ws room g b
+    took {f} {g} {b} k size s e =
+        let ready = ready-facts t (length a) (k .ready) in
+        let sound : Sound (f .shape) (length b) = rw size (s .sound (length a) (ready .ready .sound)) in
+        let takes = takes-due ∙ k .due in
+        let on : f .words + l ≡ t .words + l = ap (λ (w : ℕ). w + l) (s .kept .words) in
+        rw e
+        (record {
+          reply = reply;
+          due = due-checked (machineOf t a) r h takes;
+          is = s .is;
+          spelled = ap (λ (w : ℕ). entryWords reply ++ drop w ws) on ∙ h .spelled;
+          next =
+              λ rs w.
+              next-going room ws rs (machineOf t a) (t .words) r l h here takes w (k .fits)
+              ∙ ap₂ (λ (i : ℕ) (m : M.Machine). Entries.going (drop i ws) (reply ∷ rs) m) (sym on) (sym (s .is));
+          entries = ap (λ (e : ℕ). e + 1) (s .kept .entries);
+          words = on ∙ ap (λ (i : ℕ). t .words + i) (sym (reads-count r h));
+          last = omega (arith, on, h .within);
+          within = omega (arith, on, k .fits);
+          options = s .kept .options;
+          n = s .n;
+          m = s .m;
+          shape = shape-again (t .shape) (f .shape) (length b) (rw size (ready .shape)) (s .n) (s .m) sound;
+          sound = sound;
+          settled = s .kept .settled;
+          x0 = s .x0;
+          terms = ap (λ (m : M.Machine). m .terms) (s .is) ∙ terms-stay t (view a (t .shape .n)) reply (ready .within) takes;
+        })
+
+-- what `replay_entry` answers, by its variant
+pub next-took : (t : Fit) (a : List Float) (ws : List ℕ) (room : ℕ) (r : Replayed) (f : Fit) (b : List Float) → r ≡ Done f → NextIs t a ws room r b → Took t a ws room f b
+next-took t a ws room r f b e h = subst (λ (q : Replayed). NextIs t a ws room q b) e h
+
+pub took-more : {t f : Fit} {a b : List Float} {ws : List ℕ} {room : ℕ} → Took t a ws room f b → t .words < f .words
+took-more h = omega (arith, h .words, words-some (h .reply))
+
+-- ---- entry by entry
+
+-- f with the area b is reached from t with the area a
+pub record Reached (t : Fit) (a : List Float) (ws : List ℕ) (limit room : ℕ) (f : Fit) (b : List Float) : Type 0 where
+  pub size : length b ≡ length a
+  pub small : t .shape .n ≤ 64
+  pub area : areaWords (t .shape .n) (t .shape .m) ≤ length a
+  pub options : f .options ≡ t .options
+  pub n : f .shape .n ≡ t .shape .n
+  pub m : f .shape .m ≡ t .shape .m
+  pub shape : shapeHeld (f .shape) (length b) ≡ true
+  pub sound : Sound (f .shape) (length b)
+  pub settled : Settled (t .search) (t .trials) → Settled (f .search) (f .trials)
+  pub x0 : view b (t .shape .n) X0 ≡ view a (t .shape .n) X0
+  pub terms : machineOf f b .terms ≡ machineOf t a .terms
+  pub few : f .entries ≤ limit
+  pub words : f .words ≤ length ws
+  pub within : f .words ≤ room
+  pub is : (s : P.Setup) → Accepted s → setupHeld t a ≡ s → machineOf t a ≡ D.begin s → ReplayedTo s ws room f b
+
+pub reached-first : (t : Fit) (a : List Float) (ws : List ℕ) (limit room : ℕ) → isReady t (length a) ≡ true → t .entries ≡ 0 → t .words ≡ 0
+    → Reached t a ws limit room t a
+unfolding afterEntries logWords run
+reached-first t a ws limit room h e w =
+    let ready = ready-facts t (length a) h in
+    let none : drop (t .words) ws ≡ ws = ap (λ (i : ℕ). drop i ws) w in
+    record {
+      size = refl;
+      small = ready .ready .n;
+      area = ready .area;
+      options = refl;
+      n = refl;
+      m = refl;
+      shape = ready .shape;
+      sound = ready .ready .sound;
+      settled = λ s. s;
+      x0 = refl;
+      terms = refl;
+      few = omega arith;
+      words = omega arith;
+      within = omega arith;
+      is = λ s c o k. record {
+        replies = [];
+        after =
+            ap (λ (i : ℕ). afterEntries i room (firstEntries s ws)) e
+            ∙ ap₂ (λ (l : List ℕ) (m : M.Machine). Entries.going l [] m) (sym none) (sym k);
+        due = tt;
+        is = k;
+        spelled = none;
+        entries = e;
+        words = w;
+      };
+    }
+
+-- one entry more
+replayed-more : {s : P.Setup} {ws : List ℕ} {room : ℕ} {f g : Fit} {b d : List Float} → ReplayedTo s ws room f b → Took f b ws room g d → ReplayedTo s ws room g d
+unfolding afterEntries logWords run
+replayed-more {s} {ws} {room} {f} {g} {b} {d} h k =
+    let more : g .entries ≡ suc (f .entries) = k .entries ∙ omega arith in
+    record {
+      replies = k .reply ∷ h .replies;
+      after =
+          ap (λ (i : ℕ). afterEntries i room (firstEntries s ws)) more
+          ∙ ap (oneMore room) (h .after)
+          ∙ k .next (h .replies) (h .words);
+      due = (ap (λ (m : M.Machine). M.checkDue m (k .reply)) (sym (h .is)) ∙ k .due, h .due);
+      is = k .is ∙ ap (λ (m : M.Machine). D.answer m (k .reply)) (h .is);
+      spelled =
+          append-assoc (logWords (h .replies)) (entryWords (k .reply)) (drop (g .words) ws)
+          ∙ ap (λ (l : List ℕ). logWords (h .replies) ++ l) (k .spelled)
+          ∙ h .spelled;
+      entries = more ∙ ap suc (h .entries);
+      words = omega (arith, k .words, h .words, log-more (k .reply) (h .replies));
+    }
+
+pub reached-more : {t f g : Fit} {a b d : List Float} {ws : List ℕ} {limit room : ℕ}
+    → Reached t a ws limit room f b → f .entries < limit → length d ≡ length b → Took f b ws room g d → Reached t a ws limit room g d
+reached-more {t} {f} {g} {a} {b} {d} h l size k = record {
+  size = size ∙ h .size;
+  small = h .small;
+  area = h .area;
+  options = k .options ∙ h .options;
+  n = k .n ∙ h .n;
+  m = k .m ∙ h .m;
+  shape = k .shape;
+  sound = k .sound;
+  settled = λ s. k .settled (h .settled s);
+  x0 = (rw (h .n) at (k .x0)) ∙ h .x0;
+  terms = k .terms ∙ h .terms;
+  few = omega (arith, k .entries);
+  words = k .last;
+  within = k .within;
+  is = λ s c o e. replayed-more (h .is s c o e) k;
+}
+
+-- ---- the end
+
+-- the setup is held as it was
+setup-held : {t f : Fit} {a b : List Float} {ws : List ℕ} {limit room : ℕ} → Reached t a ws limit room f b → setupHeld f b ≡ setupHeld t a
+setup-held {t} {f} {a} {b} h =
+    let x0 : view b (f .shape .n) X0 ≡ view a (t .shape .n) X0 = ap (λ (k : ℕ). view b k X0) (h .n) ∙ h .x0 in
+    λ i. setupIn (h .options i) (x0 i) (h .terms i .bounds .lower) (h .terms i .bounds .upper)
+
+area-held : (t : Fit) (a : List Float) (s : P.Setup) → machineOf t a ≡ D.begin s → areaWords (t .shape .n) (t .shape .m) ≡ areaNeeded s
+unfolding begin
+area-held t a s e = λ i. areaWords (e i .terms .n) (e i .terms .maxcor)
+
+-- the fit of an accepted setup passes the test
+ready-again : {t f : Fit} {a b : List Float} {ws : List ℕ} {limit room : ℕ} → Reached t a ws limit room f b
+    → (s : P.Setup) → Accepted s → setupHeld t a ≡ s → machineOf t a ≡ D.begin s → isReady f (length b) ≡ true
+ready-again {t} {f} {a} {b} h s c o e =
+    let k = h .is s c o e in
+    run-ready f (length b) b s (k .replies) c (k .due) (k .is) (setup-held h ∙ o) (h .sound) (omega (arith, h .area, h .size, area-held t a s e)) (k .entries) (k .words)
+
+pub reached-done : {t f : Fit} {a b : List Float} {ws : List ℕ} {limit room : ℕ} → Reached t a ws limit room f b → (f .words ≡ length ws) ⊎ (f .entries ≡ limit)
+    → Replays t a ws limit room (Done f) b
+reached-done h stopped = record {
+  size = h .size;
+  kept = record {
+    options = h .options;
+    n = h .n;
+    m = h .m;
+    shape = h .shape;
+    settled = h .settled;
+    x0 = h .x0;
+    terms = h .terms;
+    few = h .few;
+    words = h .words;
+    within = h .within;
+    stopped = stopped;
+  };
+  is = h .is;
+}
+
+pub reached-refused : {t f : Fit} {a b d : List Float} {ws : List ℕ} {limit room c : ℕ} (r : Replayed) → r ≡ Refused c
+    → Reached t a ws limit room f b → f .entries < limit → length d ≡ length b → NextIs f b ws room r d → Replays t a ws limit room r d
+unfolding afterEntries
+reached-refused {t} {f} {a} {b} {d} {ws} {limit} {room} r q h l size next =
+    let k = subst (λ (r : Replayed). NextIs f b ws room r d) q next in
+    rw q
+    (record {
+      size = size ∙ h .size;
+      kept = k .code;
+      is = λ s c o e. let g = h .is s c o e in record {
+        number = suc (f .entries);
+        most = l;
+        is = ap (oneMore room) (g .after) ∙ k .next (ready-again h s c o e) (g .replies) (g .words);
+      };
+    })

@@ -1,0 +1,5 @@
+pub mod Words
+pub mod Entries
+pub mod Answers
+pub mod Laws
+pub mod Read

@@ -1,0 +1,53 @@
+-- `replay::take_entry` meets its contract: a gradient is stored ahead of the driver's step. Assumes nothing.
+use denote.Ref.{now}
+use native.Mathlib.Omega.{arith}
+use borrow.Author.Needs.{needs}
+use Rattle.fit.proofs.Laws.{first-room}
+use Rattle.driver.proofs.Laws.{ready-facts}
+use Rattle.replay.specs.Replays.{sourceWords}
+use Rattle.replay.specs.Taken.{gradientAt}
+use Rattle.replay.proofs.Entries.{gradient-fits}
+use Rattle.replay.proofs.Answers.{gradient-steps, other-steps}
+use Rattle.replay.proofs.take_entry.Statement.{statement}
+use Rattle.replay.proofs.take_entry.Tie as tie
+
+advance-requires : tie.Need-advance-requires
+advance-requires c κs = let h = ready-facts _ _ (c .before .before .before .before .before .pre .1) in (h .ready, h .within)
+
+returns : tie.Need-returns
+returns c =
+    let a = c .before .before .before .before .before .before .before .before .args in
+    other-steps (a .r) (gradientAt (a .t .shape .n) (sourceWords (a .s) (now (a .log)) (now (a .input))) (a .t .words)) (c .before .before .before .before .match .keys2) (c .before .before .advance .ensures)
+
+add-store-gradient : tie.Need-add-store-gradient
+add-store-gradient c = omega (arith, ready-facts _ _ (c .before .before .before .before .before .before .before .pre .1) .words)
+
+store-gradient-requires : tie.Need-store-gradient-requires
+store-gradient-requires c κs =
+    let at = c .before .before .before .before .before .before .before in
+    let a = at .args in
+    (first-room (ready-facts _ _ (at .pre .1) .ready .sound), at .pre .0, gradient-fits (a .r) (a .t .shape .n) (a .t .words) (a .s .words) (c .before .before .enum-told .given .1) (at .pre .3))
+
+advance-requires-2 : tie.Need-advance-requires-2
+advance-requires-2 c κs = let h = ready-facts _ _ (c .before .before .before .before .before .before .before .before .before .before .before .pre .1) in (rw (c .before .before .area2 .given) (h .ready), h .within)
+
+returns-2 : tie.Need-returns-2
+returns-2 c =
+    let at = c .before .before .before .before .before .before .before .before .before .before .before .before .before .before in
+    let a = at .args in
+    gradient-steps (a .r) (gradientAt (a .t .shape .n) (sourceWords (a .s) (now (a .log)) (now (a .input))) (a .t .words)) (c .before .before .before .before .before .before .before .before .before .enum-told .given .1) (at .pre .2)
+    (c .before .before .before .before .before .before .store-gradient .ensures) (c .before .before .advance2 .ensures)
+
+pub take-entry-spec : {M : Type 1} → statement M
+take-entry-spec =
+    tie.close
+    (tie.spec
+    (λ c. search needs)
+    advance-requires
+    (λ c. search needs)
+    returns
+    add-store-gradient
+    store-gradient-requires
+    advance-requires-2
+    (λ c. search needs)
+    returns-2)

@@ -1,0 +1,118 @@
+-- Where entries stand, and what a replay of them leaves.
+use Prim.Native.Nat.{ℕ, zero, suc, _+_, _*_, _≤_, _<_}
+use mathlib.Core.Path.{_≡_}
+use mathlib.Core.Bool.{true, false, cond}
+use mathlib.Core.Logic.{_⊎_}
+use mathlib.Core.List.{List, [], _++_}
+use lib.ListN.{length, take, drop}
+use lib.Ieee.{Float}
+use Rattle.definition.specs.Problem as P
+use Rattle.definition.specs.Machine as M
+use Rattle.definition.specs.Driver as D
+use Rattle.definition.specs.Log.{Entries, nextEntry, logWords}
+use Rattle.definition.specs.Record.{wordsOf}
+use Rattle.definition.specs.Replies.{Accepted, Due}
+use Rattle.area.specs.Area.{view, X0, Lower, Upper}
+use Rattle.problem.specs.Setups.{setupIn}
+use Rattle.search.specs.State.{Settled}
+use Rattle.fit.specs.State.{machineOf}
+use Rattle.fit.specs.declared.Fit.{Fit}
+use Rattle.driver.specs.Replies.{shapeHeld}
+use Rattle.replay.specs.declared.Source.{Source}
+use Rattle.replay.specs.declared.Replayed.{Replayed}
+use Rattle.replay.specs.declared.Replayed.the-variants.{Done, Refused}
+
+-- ---- words
+
+abbrev pub sourceWords : Source → List ℕ → List ℕ → List ℕ
+sourceWords s log bs = cond (s .recorded) (wordsOf (s .words) (drop (s .at) bs)) (take (s .words) log)
+
+-- the words lie within the log, or within the record
+pub record Within (s : Source) (log bs : List ℕ) : Type 0 where
+  pub logged : s .recorded ≡ false → s .words ≤ length log
+  pub recorded : s .recorded ≡ true → s .at + 8 * s .words ≤ length bs
+
+-- another number of entries kept, and of their words
+abbrev pub withLog : ℕ → ℕ → Fit → Fit
+withLog entries words t = record {
+  shape = t .shape;
+  options = t .options;
+  limits = t .limits;
+  counters = t .counters;
+  phase = t .phase;
+  search = t .search;
+  trials = t .trials;
+  value = t .value;
+  trial = t .trial;
+  right = t .right;
+  before = t .before;
+  theta = t .theta;
+  entries = entries;
+  words = words;
+}
+
+-- ---- entries, one by one
+
+abbrev pub oneMore : ℕ → Entries → Entries
+oneMore room (Entries.kept rs) = Entries.kept rs
+oneMore room (Entries.refusedAt c) = Entries.refusedAt c
+oneMore room (Entries.going ws rs m) = nextEntry room ws rs m
+
+-- the definition's reading of entries, after k of them
+unfoldable pub afterEntries : ℕ → ℕ → Entries → Entries
+afterEntries zero room e = e
+afterEntries (suc k) room e = oneMore room (afterEntries k room e)
+
+abbrev pub firstEntries : P.Setup → List ℕ → Entries
+firstEntries s ws = Entries.going ws [] (D.begin s)
+
+-- ---- a replay
+
+-- the setup that a fit and its area hold
+abbrev pub setupHeld : Fit → List Float → P.Setup
+setupHeld t a = let v = view a (t .shape .n) in setupIn (t .options) (v X0) (v Lower) (v Upper)
+
+-- f with the area b is the setup's machine after as many entries as f says
+pub record ReplayedTo (s : P.Setup) (ws : List ℕ) (room : ℕ) (f : Fit) (b : List Float) : Type 0 where
+  pub replies : List M.Reply
+  pub after : afterEntries (f .entries) room (firstEntries s ws) ≡ Entries.going (drop (f .words) ws) replies (machineOf f b)
+  pub due : Due s replies
+  pub is : machineOf f b ≡ D.run s replies
+  pub spelled : logWords replies ++ drop (f .words) ws ≡ ws
+  pub entries : f .entries ≡ length replies
+  pub words : f .words ≡ length (logWords replies)
+
+-- the definition refuses an entry, no later than the number asked for
+pub record RefusedAt (s : P.Setup) (ws : List ℕ) (limit room c : ℕ) : Type 0 where
+  pub number : ℕ
+  pub most : number ≤ limit
+  pub is : afterEntries number room (firstEntries s ws) ≡ Entries.refusedAt c
+
+abbrev pub Ends : P.Setup → List ℕ → ℕ → ℕ → Replayed → List Float → Type 0
+Ends s ws limit room (Done f) b = ReplayedTo s ws room f b
+Ends s ws limit room (Refused c) b = RefusedAt s ws limit room c
+
+-- what is not the machine's is kept, and the numbers stay in range
+pub record Keeps (t : Fit) (a : List Float) (ws : List ℕ) (limit room : ℕ) (f : Fit) (b : List Float) : Type 0 where
+  pub options : f .options ≡ t .options
+  pub n : f .shape .n ≡ t .shape .n
+  pub m : f .shape .m ≡ t .shape .m
+  pub shape : shapeHeld (f .shape) (length b) ≡ true
+  pub settled : Settled (t .search) (t .trials) → Settled (f .search) (f .trials)
+  pub x0 : view b (t .shape .n) X0 ≡ view a (t .shape .n) X0
+  pub terms : machineOf f b .terms ≡ machineOf t a .terms
+  pub few : f .entries ≤ limit
+  pub words : f .words ≤ length ws
+  pub within : f .words ≤ room
+  -- it stopped at the last word, or at the number of entries asked for
+  pub stopped : (f .words ≡ length ws) ⊎ (f .entries ≡ limit)
+
+abbrev pub Kept : Fit → List Float → List ℕ → ℕ → ℕ → Replayed → List Float → Type 0
+Kept t a ws limit room (Done f) b = Keeps t a ws limit room f b
+Kept t a ws limit room (Refused c) b = (c ≡ 17) ⊎ ((c ≡ 12) × (room < length ws))
+
+pub record Replays (t : Fit) (a : List Float) (ws : List ℕ) (limit room : ℕ) (r : Replayed) (b : List Float) : Type 0 where
+  pub size : length b ≡ length a
+  pub kept : Kept t a ws limit room r b
+  -- of an accepted setup, the definition's reading, entry by entry
+  pub is : (s : P.Setup) → Accepted s → setupHeld t a ≡ s → machineOf t a ≡ D.begin s → Ends s ws limit room r b
