@@ -1,0 +1,199 @@
+-- The answers of `start` and `reply` with what they leave, over plain words. Assumes nothing.
+use Prim.Native.Nat.{ℕ, _+_, _≤_}
+use native.Mathlib.Omega.{arith}
+use mathlib.Core.Path.{_≡_, refl, sym, ap, _∙_}
+use mathlib.Core.Bool.{true, false, false≢true, true≢false}
+use mathlib.Core.List.{List, [], _∷_, _++_}
+use mathlib.Core.Option.{none, some}
+use borrow.Author.Tests.{ltb-false}
+use lib.Dec.{ltb}
+use lib.ListN.{length, take, drop}
+use lib.Ieee.{Float}
+use Rattle.definition.specs.Problem as P
+use Rattle.definition.specs.Problem.{Refusal, Check, refuse, when, _then_, validate, areaNeeded}
+use Rattle.definition.specs.Machine as M
+use Rattle.definition.specs.Machine.{checkDue}
+use Rattle.definition.specs.Log.{entryWords, logWords}
+use Rattle.definition.specs.Record.{checkArea, plainRefusal}
+use Rattle.definition.specs.History as H
+use Rattle.definition.specs.History.{Call, History, historyStep, historyAnswer, checkReply}
+use Rattle.definition.proofs.Accepted.{both-passed, test-failed}
+use Rattle.area.proofs.Sizes.{behind}
+use Rattle.problem.specs.Setups.{setupIn, placesIn, checkOf, refusalOf}
+use Rattle.problem.specs.declared.Options.{Options}
+use Rattle.problem.proofs.Accepted.{accepted}
+use Rattle.problem.specs.declared.Refusal as D
+use Rattle.problem.specs.declared.Checked.{Checked}
+use Rattle.problem.specs.declared.Checked.the-variants.{Passed, Refused}
+use Rattle.fit.specs.State.{machineOf}
+use Rattle.fit.specs.declared.Fit.{Fit}
+use Rattle.opening.specs.Opened.{Room, Fits, Opened}
+use Rattle.driver.specs.Replies.{isHeld, Marks}
+use Rattle.lbfgsb.specs.Words.{Words, words, lengths, Held, Holds}
+use Rattle.lbfgsb.specs.Did.{Started, checkAt, Moved, Replied}
+use Rattle.lbfgsb.specs.Moves.{written, checkSaid, Advances}
+use Rattle.lbfgsb.proofs.Laws.{Reached, reached-marked, reached-held, opened-reached, held-advanced, written-length}
+
+unlike : (r : Refusal) → H.Answer.refused r ≡ H.Answer.done → ⊥
+unlike r e = let z : _≡_ {A = ℕ} 0 1 = cc in omega arith
+
+other : (r : Refusal) → H.Answer.done ≡ H.Answer.refused r → ⊥
+other r e = let z : _≡_ {A = ℕ} 0 1 = cc in omega arith
+
+-- ---- checks, one after the other
+
+pub passed : {k : Checked} {a : Check} → k ≡ Passed → checkOf k ≡ a → a ≡ none
+passed e h = sym h ∙ ap checkOf e
+
+pub refused : {k : Checked} {q : D.Refusal} {a : Check} → k ≡ Refused q → checkOf k ≡ a → a ≡ some (refusalOf q)
+refused e h = sym h ∙ ap checkOf e
+
+pub first-refuses : {k : Checked} {q : D.Refusal} {a : Check} (b : Check) → k ≡ Refused q → checkOf k ≡ a → checkOf k ≡ (a then b)
+first-refuses b e h = rw (← h, e) refl
+
+pub not-both : {q : D.Refusal} → Refused q ≡ Passed → ⊥
+not-both e = let z : _≡_ {A = ℕ} 0 1 = cc in omega arith
+
+pub rest-decides : {a : Check} (b : Check) → a ≡ none → b ≡ (a then b)
+rest-decides b e = rw e refl
+
+-- ---- start
+
+pub start-refused : (s : P.Setup) (w : Words) (r : Refusal) → (validate s then checkArea (lengths w) s) ≡ some r → Started s w w (H.Answer.refused r)
+start-refused s w r e = record {
+  did = record { sized = refl; holds = λ h k. rw e k; said = λ h k. rw e refl };
+  always = rw e refl;
+  refuses = λ q p. refl;
+  opened = λ p. absurd (unlike r p);
+  log = refl;
+}
+
+pub start-done : (s : P.Setup) (w w' : Words) → (validate s then checkArea (lengths w) s) ≡ none → lengths w' ≡ lengths w → w' .log ≡ w .log → Held w' s []
+    → Started s w w' H.Answer.done
+start-done s w w' e z l h = record {
+  did = record { sized = z; holds = λ g k. rw e h; said = λ g k. rw e refl };
+  always = rw e refl;
+  refuses = λ q p. absurd (other q p);
+  opened = λ p. h;
+  log = l;
+}
+
+-- what the checks of a setup leave to the opening
+pub start-room : (o : Options) (x0 l u : List Float) (size k : ℕ)
+    → (validate (setupIn o x0 l u) then checkArea (record { area = size; log = k }) (setupIn o x0 l u)) ≡ none → Room o (length x0) size × Fits o (length x0) l u
+start-room o x0 l u size k e =
+    let s = setupIn o x0 l u in
+    let p = both-passed (validate s) (checkArea (record { area = size; log = k }) s) e in
+    let h = accepted s (p .0) in
+    let z = ltb-false size (areaNeeded s) (test-failed (ltb size (areaNeeded s)) _ (p .1)) in (
+      record { all = omega (arith, z, behind (length x0) (placesIn o)); few = h .pairs-high; some = h .pairs-low },
+      record { lower = λ b. rw b at (h .lower-long); upper = λ b. rw b at (h .upper-long) },
+    )
+
+-- the fit just opened
+pub start-reached : (s : P.Setup) (o : Options) (n k : ℕ) (a b : List Float) (t : Fit)
+    → (validate s then checkArea (record { area = length a; log = k }) s) ≡ none → length b ≡ length a → Opened o n s (length a) t b → Reached t b s []
+start-reached s o n k a b t e z h =
+    let p = both-passed (validate s) (checkArea (record { area = length a; log = k }) s) e in
+    let room = ltb-false (length a) (areaNeeded s) (test-failed (ltb (length a) (areaNeeded s)) _ (p .1)) in
+    let h' : Opened o n s (length b) t b = rw z h in
+    opened-reached (p .0) (rw z room) h'
+
+pub start-held : {t : Fit} {a b : List Float} {s : P.Setup} (l : List ℕ) → Reached t a s [] → Marks (t .shape) a b → Held (words t b l) s []
+unfolding logWords
+start-held l h m = reached-held (reached-marked h m) (m .mark) (rw (h .words) (omega arith)) (rw (h .words) refl)
+
+pub start-opened : (s : P.Setup) (w : Words) (t : Fit) (a b : List Float) → (validate s then checkArea (lengths w) s) ≡ none → length a ≡ length (w .area)
+    → Reached t a s [] → Marks (t .shape) a b → Started s w (words t b (w .log)) H.Answer.done
+start-opened s w t a b e z h m = start-done s w (words t b (w .log)) e (λ i. record { area = (m .size ∙ z) i; log = length (w .log) }) refl (start-held (w .log) h m)
+
+-- ---- reply
+
+-- the check of a history that the words hold
+check-held : (w : Words) (s : P.Setup) (rs : List M.Reply) (r : M.Reply) → Held w s rs → checkReply (lengths w) s rs r ≡ checkAt w r
+check-held w s rs r h = rw (← h .is, ← h .words) refl
+
+unheld-holds : (w : Words) (r : M.Reply) → isHeld (w .state) (w .area) ≡ false → (h : History) → Holds w h → Holds w (historyStep (lengths w) h (Call.reply r))
+unheld-holds w r e History.empty k = k
+unheld-holds w r e (History.fit s rs) k = absurd (false≢true (sym e ∙ k .test))
+
+unheld-said : (w : Words) (r : M.Reply) → isHeld (w .state) (w .area) ≡ false → (h : History) → Holds w h
+    → H.Answer.refused (plainRefusal 13) ≡ historyAnswer (lengths w) h (Call.reply r)
+unheld-said w r e History.empty k = refl
+unheld-said w r e (History.fit s rs) k = absurd (false≢true (sym e ∙ k .test))
+
+pub reply-unheld : (r : M.Reply) (w : Words) → isHeld (w .state) (w .area) ≡ false → Replied r w w (H.Answer.refused (plainRefusal 13))
+reply-unheld r w e = record {
+  did = record { sized = refl; holds = unheld-holds w r e; said = unheld-said w r e };
+  always = rw e refl;
+  refuses = λ q p. refl;
+  moved = λ p. absurd (unlike (plainRefusal 13) p);
+}
+
+refused-holds : (w : Words) (r : M.Reply) (c : Refusal) → isHeld (w .state) (w .area) ≡ true → checkAt w r ≡ some c
+    → (h : History) → Holds w h → Holds w (historyStep (lengths w) h (Call.reply r))
+refused-holds w r c t e History.empty k = k
+refused-holds w r c t e (History.fit s rs) k = rw (check-held w s rs r k ∙ e) k
+
+refused-said : (w : Words) (r : M.Reply) (c : Refusal) → isHeld (w .state) (w .area) ≡ true → checkAt w r ≡ some c
+    → (h : History) → Holds w h → H.Answer.refused c ≡ historyAnswer (lengths w) h (Call.reply r)
+refused-said w r c t e History.empty k = absurd (true≢false (sym t ∙ k))
+refused-said w r c t e (History.fit s rs) k = rw (check-held w s rs r k ∙ e) refl
+
+pub reply-refused : (r : M.Reply) (w : Words) (c : Refusal) → isHeld (w .state) (w .area) ≡ true → checkAt w r ≡ some c → Replied r w w (H.Answer.refused c)
+reply-refused r w c t e = record {
+  did = record { sized = refl; holds = refused-holds w r c t e; said = refused-said w r c t e };
+  always = rw (t, e) refl;
+  refuses = λ q p. refl;
+  moved = λ p. absurd (unlike c p);
+}
+
+-- the words hold the fit with one more reply, whatever they held
+abbrev pub OneMore : M.Reply → Words → Words → Type 0
+OneMore r w w' = (s : P.Setup) (rs : List M.Reply) → Held w s rs → Held w' s (r ∷ rs)
+
+done-holds : (r : M.Reply) (w w' : Words) → isHeld (w .state) (w .area) ≡ true → checkAt w r ≡ none → OneMore r w w'
+    → (h : History) → Holds w h → Holds w' (historyStep (lengths w) h (Call.reply r))
+done-holds r w w' t e m History.empty k = absurd (true≢false (sym t ∙ k))
+done-holds r w w' t e m (History.fit s rs) k = rw (check-held w s rs r k ∙ e) (m s rs k)
+
+done-said : (r : M.Reply) (w : Words) → isHeld (w .state) (w .area) ≡ true → checkAt w r ≡ none
+    → (h : History) → Holds w h → H.Answer.done ≡ historyAnswer (lengths w) h (Call.reply r)
+done-said r w t e History.empty k = absurd (true≢false (sym t ∙ k))
+done-said r w t e (History.fit s rs) k = rw (check-held w s rs r k ∙ e) refl
+
+pub reply-done : (r : M.Reply) (w w' : Words) → isHeld (w .state) (w .area) ≡ true → checkAt w r ≡ none → lengths w' ≡ lengths w → Moved r w w' → OneMore r w w'
+    → Replied r w w' H.Answer.done
+reply-done r w w' t e z v m = record {
+  did = record { sized = z; holds = done-holds r w w' t e m; said = done-said r w t e };
+  always = rw (t, e) refl;
+  refuses = λ q p. absurd (other q p);
+  moved = λ p. v;
+}
+
+-- ---- the fit advanced
+
+-- the check passed: the reply is due, and its entry has room
+pub said-passed : (t : Fit) (a : List Float) (l : List ℕ) (r : M.Reply) → checkSaid t a (length l) r ≡ none
+    → (checkDue (machineOf t a) r ≡ none) × (t .words + length (entryWords r) ≤ length l)
+said-passed t a l r e =
+    let p = both-passed (checkDue (machineOf t a) r) (when (ltb (length l) (t .words + length (entryWords r))) (refuse 12 0 0)) e in
+    (p .0, ltb-false (length l) _ (test-failed (ltb (length l) (t .words + length (entryWords r))) _ (p .1)))
+
+moved : {r : M.Reply} {t f : Fit} {a b : List Float} (l : List ℕ) → Advances r t a f b → Moved r (words t a l) (words f b (written (t .words) (entryWords r) l))
+moved {r} {t} l h = record {
+  is = h .is;
+  setup = h .setup;
+  entries = h .entries;
+  words = h .words;
+  log = ap (λ (k : ℕ). take (t .words) l ++ entryWords r ++ drop k l) (sym (h .words));
+}
+
+pub reply-advanced : (r : M.Reply) (t f : Fit) (a b : List Float) (l m : List ℕ) → isHeld t a ≡ true → checkSaid t a (length l) r ≡ none → length b ≡ length a
+    → Advances r t a f b → m ≡ written (t .words) (entryWords r) l → Replied r (words t a l) (words f b m) H.Answer.done
+reply-advanced r t f a b l m k e z h q =
+    let p = said-passed t a l r e in
+    let n = written-length (t .words) (entryWords r) l (p .1) in
+    rw q
+    (reply-done r (words t a l) (words f b (written (t .words) (entryWords r) l)) k e (λ i. record { area = z i; log = n i }) (moved l h)
+    (λ s rs o. held-advanced o (p .0) (p .1) z h))

@@ -1,0 +1,78 @@
+-- An output is the answer's part at its front, and the rest of it is as it was: for each read, from its contract. Assumes nothing.
+use Prim.Native.Nat.{ℕ, zero, suc}
+use mathlib.Core.Path.{_≡_, refl, sym, ap, _∙_}
+use mathlib.Core.List.{List, [], _∷_, _++_}
+use lib.ListN.{length, take, drop}
+use lib.Ieee.{Float}
+use contract.Lifetimes.{Lfts}
+use denote.Ref.{now}
+use denote.Triple.Clauses.{AtExit}
+use borrow.Fn.Kinds.{Dens, endedOf, resT}
+use Rattle.lbfgsb.specs.Words.{asked, told, entered, saved}
+use Rattle.lbfgsb.specs.Did.{Written, taken}
+use Rattle.lbfgsb.specs.Chain.{Output, floatsOf, numbersOf}
+use Rattle.lbfgsb.specs.declared.Asked.{Asked}
+use Rattle.lbfgsb.specs.declared.Asked.the-variants as Q
+use Rattle.lbfgsb.specs.declared.Told.{Told}
+use Rattle.lbfgsb.specs.declared.Told.the-variants as T
+use Rattle.lbfgsb.specs.declared.Wrote.{Wrote}
+use Rattle.lbfgsb.specs.declared.Wrote.the-variants as W
+use Rattle.lbfgsb.proofs.question.Kinds as question-kinds
+use Rattle.lbfgsb.proofs.question.Reads as question-reads
+use Rattle.lbfgsb.proofs.report.Kinds as report-kinds
+use Rattle.lbfgsb.proofs.report.Reads as report-reads
+use Rattle.lbfgsb.proofs.entry.Kinds as entry-kinds
+use Rattle.lbfgsb.proofs.entry.Reads as entry-reads
+use Rattle.lbfgsb.proofs.save.Kinds as save-kinds
+use Rattle.lbfgsb.proofs.save.Reads as save-reads
+
+front-back : {A : Type 0} (n : ℕ) (l : List A) → take n l ++ drop (length (take n l)) l ≡ l
+front-back zero l = refl
+front-back (suc n) [] = refl
+front-back {A} (suc n) (x ∷ l) = ap (λ (r : List A). x ∷ r) (front-back n l)
+
+-- nothing written, and n places written
+none-written : {A : Type 0} {out out' : List A} → Written 0 out out' → Output [] out out'
+none-written h = h .rest
+
+some-written : {A : Type 0} {out out' : List A} (n : ℕ) → Written (length (take n out')) out out' → Output (take n out') out out'
+some-written {A} {out} {out'} n h = sym (front-back n out') ∙ ap (λ (r : List A). take n out' ++ r) (h .rest)
+
+asked-written : (z : Asked) (n : ℕ) (out out' : List Float) → Written (taken (asked z n out')) out out' → Output (floatsOf (asked z n out')) out out'
+asked-written Q.Nothing n out out' h = none-written h
+asked-written (Q.Is k) n out out' h = some-written n h
+asked-written (Q.Refused c) n out out' h = none-written h
+
+told-written : (z : Told) (n : ℕ) (out out' : List Float) → Written (taken (told z n out')) out out' → Output (floatsOf (told z n out')) out out'
+told-written (T.Is o) n out out' h = some-written n h
+told-written (T.Refused c) n out out' h = none-written h
+
+entered-written : (z : Wrote) (out out' : List ℕ) → Written (taken (entered z out')) out out' → Output (numbersOf (entered z out')) out out'
+entered-written (W.Is k) out out' h = some-written k h
+entered-written (W.Refused c) out out' h = none-written h
+
+saved-written : (z : Wrote) (out out' : List ℕ) → Written (taken (saved z out')) out out' → Output (numbersOf (saved z out')) out out'
+saved-written (W.Is k) out out' h = some-written k h
+saved-written (W.Refused c) out out' h = none-written h
+
+-- ---- the theorems: the answer and the output are those of `Called`
+
+pub question-output :
+    (κs : Lfts 2) (a : Dens κs question-kinds.ps) (z : resT question-kinds.r κs .Denot) (e : AtExit (endedOf 2 question-kinds.ps question-kinds.r) κs)
+    → question-reads.Learnt κs a z e → Output (floatsOf (asked z (a .0 .shape .n) (now (e .1 .1 .0)))) (now (a .1 .1 .0)) (now (e .1 .1 .0))
+question-output κs a z e l = asked-written z (a .0 .shape .n) (now (a .1 .1 .0)) (now (e .1 .1 .0)) (l [] .written)
+
+pub report-output :
+    (κs : Lfts 2) (a : Dens κs report-kinds.ps) (z : resT report-kinds.r κs .Denot) (e : AtExit (endedOf 2 report-kinds.ps report-kinds.r) κs)
+    → report-reads.Learnt κs a z e → Output (floatsOf (told z (a .0 .shape .n) (now (e .1 .1 .0)))) (now (a .1 .1 .0)) (now (e .1 .1 .0))
+report-output κs a z e l = told-written z (a .0 .shape .n) (now (a .1 .1 .0)) (now (e .1 .1 .0)) (l [] .written)
+
+pub entry-output :
+    (κs : Lfts 3) (a : Dens κs entry-kinds.ps) (z : resT entry-kinds.r κs .Denot) (e : AtExit (endedOf 3 entry-kinds.ps entry-kinds.r) κs)
+    → entry-reads.Learnt κs a z e → Output (numbersOf (entered z (now (e .1 .1 .1 .1 .0)))) (now (a .1 .1 .1 .1 .0)) (now (e .1 .1 .1 .1 .0))
+entry-output κs a z e l = entered-written z (now (a .1 .1 .1 .1 .0)) (now (e .1 .1 .1 .1 .0)) (l .written)
+
+pub save-output :
+    (κs : Lfts 3) (a : Dens κs save-kinds.ps) (z : resT save-kinds.r κs .Denot) (e : AtExit (endedOf 3 save-kinds.ps save-kinds.r) κs)
+    → save-reads.Learnt κs a z e → Output (numbersOf (saved z (now (e .1 .1 .1 .0)))) (now (a .1 .1 .1 .0)) (now (e .1 .1 .1 .0))
+save-output κs a z e l = saved-written z (now (a .1 .1 .1 .0)) (now (e .1 .1 .1 .0)) (l .written)

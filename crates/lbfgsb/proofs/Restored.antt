@@ -1,0 +1,202 @@
+-- Laws of restoring a record: refused ahead of its entries, refused at one, or read in whole. Assumes nothing.
+use Prim.Native.Nat.{ℕ, _+_, _-_, _*_, _≤_}
+use native.Mathlib.Omega.{arith}
+use mathlib.Core.Path.{_≡_, refl, sym, ap, ap₂, _∙_, subst}
+use mathlib.Core.Bool.{true}
+use mathlib.Core.Logic.{_⊎_, inl, inr, ⊎-elim}
+use mathlib.Core.List.{List}
+use lib.ListN.{length, take, drop, length-append, length-drop, length-replicate}
+use lib.Seq.{take-at, drop-at, drop-drop}
+use lib.Ieee.{Float}
+use Rattle.definition.specs.Number.{zero64}
+use Rattle.definition.specs.Problem.{Setup, areaNeeded, areaWords, maxcorOf}
+use Rattle.definition.specs.Log.{entriesOf}
+use Rattle.definition.specs.Record.{Reading, readRecord, readingOf, plainRefusal, wordsOf, setupIn}
+use Rattle.definition.specs.History as H
+use Rattle.definition.specs.History.{History, restored, restoredAnswer}
+use Rattle.definition.proofs.Accepted.{accepted-in-limits}
+use Rattle.definition.proofs.Bytes.{wordsOf-length}
+use Rattle.problem.specs.Setups.{refusalOf, placesIn}
+use Rattle.problem.specs.declared.Options.{Options}
+use Rattle.problem.specs.declared.Refusal as Q
+use Rattle.fit.specs.declared.Fit.{Fit}
+use Rattle.opening.specs.Opened.{Room, Opened}
+use Rattle.driver.specs.Replies.{isReady}
+use Rattle.driver.proofs.Laws.{zeroed-unheld}
+use Rattle.record.specs.declared.Frame.{Frame}
+use Rattle.record.specs.declared.Parsed.{Parsed}
+use Rattle.record.specs.declared.Parsed.the-variants as D
+use Rattle.record.specs.Records.{wordsIn, setupFrom, floatsOf, Opens, Parsing}
+use Rattle.record.proofs.Reading.{words-drop, needed}
+use Rattle.record.proofs.Floats.{opened-setup}
+use Rattle.replay.specs.Replays.{ReplayedTo}
+use Rattle.lbfgsb.specs.declared.Answer.{Answer}
+use Rattle.lbfgsb.specs.declared.Answer.the-variants as A
+use Rattle.lbfgsb.specs.Words.{Words, words, lengths, Holds, next, kept}
+use Rattle.lbfgsb.specs.Did.{Restores, Restored}
+use Rattle.lbfgsb.specs.Back.{entriesIn, headed, Built, Unbuilt, Builds}
+use Rattle.lbfgsb.proofs.Laws.{reached-held, reached-ready, opened-reached}
+use Rattle.lbfgsb.proofs.Built.{opened-here}
+use Rattle.lbfgsb.proofs.Reread.{entries-most, refused-read, replayed-all, replayed-read}
+
+-- ---- what the reading says of every history
+
+restored-holds : (w w' : Words) (d : Reading) → Restores d w w' → (h : History) → Holds w h → Holds w' (restored h d)
+restored-holds w w' (Reading.accepted s rs) r h k = r
+restored-holds w w' (Reading.refused c) r h k = subst (λ (x : Words). Holds x h) (sym r) k
+restored-holds w w' (Reading.refusedAtEntry c) r h k = rw (r .area) (zeroed-unheld (w' .state) (length (w .area)))
+
+restores : (bs : List ℕ) (w w' : Words) (o : H.Answer) (d : Reading) → readRecord (lengths w) bs ≡ d → lengths w' ≡ lengths w → o ≡ restoredAnswer d → Restores d w w'
+    → (drop (w' .state .words) (w' .log) ≡ drop (w' .state .words) (w .log)) ⊎ (w' .log ≡ w .log) → Restored bs w w' o
+restores bs w w' o d e z a r p =
+    let always = a ∙ ap restoredAnswer (sym e) in
+    record {
+      did = record {
+        sized = z;
+        holds = λ h k. subst (λ (x : Reading). Holds w' (restored h x)) (sym e) (restored-holds w w' d r h k);
+        said = λ h k. always;
+      };
+      always = always;
+      restores = subst (λ (x : Reading). Restores x w w') (sym e) r;
+      past = p;
+    }
+
+-- ahead of the entries: every word stays
+restore-refused : (bs : List ℕ) (w : Words) (c : Q.Refusal) → readRecord (lengths w) bs ≡ Reading.refused (refusalOf c) → Restored bs w w (H.Answer.refused (refusalOf c))
+restore-refused bs w c e = restores bs w w (H.Answer.refused (refusalOf c)) (Reading.refused (refusalOf c)) e refl refl refl (inr refl)
+
+-- ---- by the answer of the checks ahead of the entries
+
+pub parsed-one : (p : Parsed) (c : Q.Refusal) (o : Options) (f : Frame) → p ≡ D.Refused c → p ≡ D.Setup o f → ⊥
+parsed-one p c o f e h = let z : _≡_ {A = ℕ} 0 1 = cc in absurd (omega arith)
+
+pub parsed-refused : (bs : List ℕ) (w : Words) (p : Parsed) (c : Q.Refusal) → p ≡ D.Refused c → Parsing bs (length (w .area)) p → Restored bs w w (H.Answer.refused (refusalOf c))
+parsed-refused bs w p c e h = restore-refused bs w c (subst (Parsing bs (length (w .area))) e h (length (w .log)))
+
+pub parsed-opens : (bs : List ℕ) (size : ℕ) (p : Parsed) (o : Options) (f : Frame) → p ≡ D.Setup o f → Parsing bs size p → Opens bs size o f
+parsed-opens bs size p o f e h = subst (Parsing bs size) e h
+
+-- ---- a record that opens
+
+module _ (bs : List ℕ) (size : ℕ) (o : Options) (f : Frame) (h : Opens bs size o f) where
+  abbrev setup : Setup
+  setup = setupIn (wordsIn bs f)
+
+  abbrev entries : List ℕ
+  entries = entriesIn bs f
+
+  pub entries-long : length entries ≡ f .words - f .setup
+  entries-long = wordsOf-length (f .words - f .setup) (drop (f .at + 8 * f .setup) bs)
+
+  pub entries-within : f .at + 8 * f .setup + 8 * (f .words - f .setup) ≤ length bs
+  entries-within = omega (arith, h .placed .within, h .whole)
+
+  entries-behind : drop (f .setup) (wordsIn bs f) ≡ entries
+  entries-behind = words-drop (f .setup) (f .words) (drop (f .at) bs) (h .whole) ∙ ap (wordsOf (f .words - f .setup)) (drop-drop (8 * f .setup) (f .at) bs)
+
+  reading : (room : ℕ) → readRecord (record { area = size; log = room }) bs ≡ readingOf setup (entriesOf setup room entries)
+  reading room = h .reads room ∙ ap (λ (ws : List ℕ). readingOf setup (entriesOf setup room ws)) entries-behind
+
+  -- what `begin` asks
+  pub opens-room : Room o (f .n) size
+  opens-room =
+      let l = accepted-in-limits setup (h .accepted) in
+      let places : maxcorOf setup ≡ placesIn o = ap maxcorOf (h .same) in
+      let need : areaWords (f .n) (placesIn o) ≡ areaNeeded setup = needed bs f (h .placed) (h .whole) o (h .options) (placesIn o) (areaWords (f .n) (placesIn o)) refl refl in
+      record { all = enough (f .n) (placesIn o) size (omega (arith, need, h .room)); few = omega (arith, l .pairs, places); some = omega (arith, l .pairs, places) }
+    where
+      enough : (n m size : ℕ) → areaWords n m ≤ size → (16 + 4 * m) * n ≤ size
+      enough n m size k = omega arith
+
+  -- the fit that `begin` makes of it
+  pub record-opened : {v : List Float} {r : Fit} {b : List Float} → v ≡ floatsOf (take (f .setup - 7) (drop 7 (wordsIn bs f))) → length b ≡ size
+      → Opened o (f .n) (setupFrom o v (f .n)) size r b → Opened o (f .n) (setupIn (wordsIn bs f)) (length b) r b
+  record-opened {v} {r} {b} e z k =
+      opened-here z (subst (λ (s : Setup). Opened o (f .n) s size r b) (ap (λ (x : List Float). setupFrom o x (f .n)) e ∙ opened-setup bs size o f h) k)
+
+  pub record-ready : {r : Fit} {b : List Float} → length b ≡ size → Opened o (f .n) (setupIn (wordsIn bs f)) (length b) r b → isReady r (length b) ≡ true
+  record-ready {r} {b} z k = reached-ready (opened-reached (h .accepted) (subst (λ (i : ℕ). areaNeeded setup ≤ i) (sym z) (h .room)) k)
+
+module _ (bs : List ℕ) (g : Fit) (a : List Float) (l : List ℕ) (o : Options) (f : Frame) (h : Opens bs (length a) o f) where
+  abbrev limit : ℕ
+  limit = f .words - f .setup
+
+  module _ (t : Fit) (b : List Float) (k : Built (setup bs (length a) o f h) (entries bs (length a) o f h) limit (length l) (length a) t b) where
+    replayed : ReplayedTo (setup bs (length a) o f h) (entries bs (length a) o f h) (length l) t b
+    replayed = k .is (h .accepted)
+
+    all-words : t .words ≡ length (entries bs (length a) o f h)
+    all-words =
+        ⊎-elim (λ e. e)
+        (λ e. omega (arith, e, k .words, replayed .entries, replayed .words, entries-most (replayed .replies), entries-long bs (length a) o f h)) (k .stopped)
+
+    abbrev now-log : List ℕ
+    now-log = headed (wordsOf (t .words) (drop (f .at + 8 * f .setup) bs)) l
+
+    copied : wordsOf (t .words) (drop (f .at + 8 * f .setup) bs) ≡ entries bs (length a) o f h
+    copied = ap (λ (i : ℕ). wordsOf i (drop (f .at + 8 * f .setup) bs)) (all-words ∙ entries-long bs (length a) o f h)
+
+    copied-long : length (wordsOf (t .words) (drop (f .at + 8 * f .setup) bs)) ≡ t .words
+    copied-long = wordsOf-length (t .words) (drop (f .at + 8 * f .setup) bs)
+
+    headed-long : length now-log ≡ length l
+    headed-long =
+        length-append (wordsOf (t .words) (drop (f .at + 8 * f .setup) bs)) (drop (length (wordsOf (t .words) (drop (f .at + 8 * f .setup) bs))) l)
+        ∙ omega (arith, copied-long, length-drop (length (wordsOf (t .words) (drop (f .at + 8 * f .setup) bs))) l, k .within)
+
+    -- what `copy_entries` asks
+    copies-within : (f .at + 8 * f .setup + 8 * t .words ≤ length bs) × (t .words ≤ length l)
+    copies-within = (omega (arith, all-words, entries-long bs (length a) o f h, entries-within bs (length a) o f h), k .within)
+
+    restore-kept : Restored bs (words g a l) (words t b now-log) H.Answer.done
+    restore-kept =
+        restores bs (words g a l) (words t b now-log) H.Answer.done (Reading.accepted (setup bs (length a) o f h) (replayed .replies))
+        (reading bs (length a) o f h (length l) ∙ ap (readingOf (setup bs (length a) o f h)) (replayed-read replayed all-words (k .within)))
+        (ap₂ (λ (x y : ℕ). record { area = x; log = y }) (k .long) headed-long)
+        refl
+        (reached-held
+        (record {
+          accepted = h .accepted;
+          due = replayed .due;
+          setup = k .setup;
+          is = replayed .is;
+          sound = k .sound;
+          area = subst (λ (i : ℕ). areaNeeded (setup bs (length a) o f h) ≤ i) (sym (k .long)) (h .room);
+          settled = k .settled;
+          entries = replayed .entries;
+          words = replayed .words;
+        })
+        (k .mark) (omega (arith, headed-long, k .within))
+        (take-at (wordsOf (t .words) (drop (f .at + 8 * f .setup) bs)) (drop (length (wordsOf (t .words) (drop (f .at + 8 * f .setup) bs))) l) (t .words) copied-long ∙ copied ∙ sym (replayed-all replayed all-words)))
+        (inl
+        (drop-at (wordsOf (t .words) (drop (f .at + 8 * f .setup) bs)) (drop (length (wordsOf (t .words) (drop (f .at + 8 * f .setup) bs))) l) (t .words) copied-long
+        ∙ ap (λ (i : ℕ). drop i l) copied-long))
+
+  module _ (c : Q.Refusal) (b : List Float) (k : Unbuilt (setup bs (length a) o f h) (entries bs (length a) o f h) limit (length l) (length a) c b) where
+    restore-zeroed : Restored bs (words g a l) (words g b l) (H.Answer.refused (refusalOf c))
+    restore-zeroed =
+        restores bs (words g a l) (words g b l) (H.Answer.refused (refusalOf c)) (Reading.refusedAtEntry (plainRefusal (k .number)))
+        (reading bs (length a) o f h (length l)
+        ∙ ap (readingOf (setup bs (length a) o f h))
+        (refused-read (setup bs (length a) o f h) (entries bs (length a) o f h) limit (length l) (k .number) (omega (arith, entries-long bs (length a) o f h)) (k .is (h .accepted))))
+        (ap (λ (x : ℕ). record { area = x; log = length l }) (ap length (k .area) ∙ length-replicate (length a) zero64))
+        (ap H.Answer.refused (k .refusal))
+        (record { state = refl; area = k .area; log = refl })
+        (inr refl)
+
+  -- ---- by the answer of the replay
+
+  abbrev Answered : Answer → List Float → Type 0
+  Answered q b = Builds (setup bs (length a) o f h) (entries bs (length a) o f h) limit (length l) (length a) q b
+
+  pub answered-zeroed : (q : Answer) (c : Q.Refusal) → q ≡ A.Refused c → (b : List Float) → Answered q b → Restored bs (words g a l) (words (next g q) b l) (kept q)
+  answered-zeroed q c e b k =
+      subst (λ (x : Answer). Restored bs (words g a l) (words (next g x) b l) (kept x)) (sym e) (restore-zeroed c b (subst (λ (x : Answer). Answered x b) e k))
+
+  pub answered-within : (q : Answer) (t : Fit) → q ≡ A.Kept t → (b : List Float) → Answered q b → (f .at + 8 * f .setup + 8 * t .words ≤ length bs) × (t .words ≤ length l)
+  answered-within q t e b k = copies-within t b (subst (λ (x : Answer). Answered x b) e k)
+
+  pub answered-kept : (q : Answer) (t : Fit) → q ≡ A.Kept t → (b : List Float) → Answered q b
+      → (m : List ℕ) → m ≡ headed (wordsOf (t .words) (drop (f .at + 8 * f .setup) bs)) l → Restored bs (words g a l) (words t b m) H.Answer.done
+  answered-kept q t e b k m z =
+      subst (λ (x : List ℕ). Restored bs (words g a l) (words t b x) H.Answer.done) (sym z) (restore-kept t b (subst (λ (x : Answer). Answered x b) e k))

@@ -1,0 +1,111 @@
+-- Laws of the reads: the answer by any words is the history's, where they hold one. Assumes nothing.
+use Prim.Native.Nat.{ℕ, _*_}
+use mathlib.Core.Path.{_≡_, refl, sym, ap, ap₂, _∙_}
+use mathlib.Core.Bool.{Bool, true, false, cond}
+use mathlib.Core.List.{List, [], _++_}
+use mathlib.Core.Option.{Option, none, some}
+use lib.Dec.{ltb}
+use lib.ListN.{length}
+use Rattle.definition.specs.Problem.{Setup, Terms, Check, refuse, when, _then_, dimension}
+use Rattle.definition.specs.Machine as M
+use Rattle.definition.specs.Driver.{run}
+use Rattle.definition.specs.Log.{logWords}
+use Rattle.definition.specs.Record.{plainRefusal, recordWords, recordBytes, setupWords, trailer, bytes}
+use Rattle.definition.specs.History as H
+use Rattle.definition.specs.History.{Call, History, outputShort, checkQuestion, historyAnswer, answerUnless}
+use Rattle.definition.proofs.Counts.{terms-stay}
+use Rattle.definition.proofs.Lengths.{record-bytes}
+use Rattle.driver.specs.Replies.{isHeld}
+use Rattle.lbfgsb.specs.Words.{Words, lengths, machineIn, logIn, Held, Holds}
+use Rattle.lbfgsb.specs.Did.{refusedBy, questionOf, questionAnswer, reportAnswer, repliesAnswer, entryIn, entryKept, shortLog, entryAnswer, recordIn, saveAnswer}
+use Rattle.lbfgsb.proofs.Entries.{entry-read}
+
+-- ---- tests, and what is held
+
+pub on : (t : Bool) (a b : H.Answer) → t ≡ true → cond t a b ≡ a
+on t a b e = rw e
+
+pub off : (t : Bool) (a b : H.Answer) → t ≡ false → cond t a b ≡ b
+off t a b e = rw e
+
+coordinates : {w : Words} {s : Setup} {rs : List M.Reply} → Held w s rs → w .state .shape .n ≡ dimension s
+coordinates {w} {s} {rs} h = ap (λ (x : Terms). x .n) (ap (λ (m : M.Machine). m .terms) (h .is) ∙ terms-stay s rs (h .due))
+
+-- ---- the answer by any words is the history's
+
+unless-is : (c : Check) (h : History) (k : Call) (o : H.Answer) → o ≡ H.accepted h k → refusedBy c o ≡ answerUnless c h k
+unless-is none h k o e = e
+unless-is (some r) h k o e = refl
+
+pub question-said : (w : Words) (room : ℕ) (h : History) → Holds w h → questionAnswer w room ≡ historyAnswer (lengths w) h (Call.question room)
+question-said w room History.empty h = off (isHeld (w .state) (w .area)) (questionOf w room (M.question (machineIn w))) (H.Answer.asked none) h
+question-said w room (History.fit s rs) h =
+    on (isHeld (w .state) (w .area)) (questionOf w room (M.question (machineIn w))) (H.Answer.asked none) (h .test)
+    ∙ ap (λ (m : M.Machine). questionOf w room (M.question m)) (h .is)
+    ∙ go (M.question (run s rs)) refl
+  where
+    go : (q : Option M.Question) → M.question (run s rs) ≡ q → questionOf w room q ≡ answerUnless (checkQuestion s room q) (History.fit s rs) (Call.question room)
+    go none e = ap H.Answer.asked (sym e)
+    go (some q) e =
+        ap (λ (n : ℕ). refusedBy (outputShort room n) (H.Answer.asked (some q))) (coordinates h)
+        ∙ unless-is (outputShort room (dimension s)) (History.fit s rs) (Call.question room) (H.Answer.asked (some q)) (ap H.Answer.asked (sym e))
+
+-- the report of the machine m with n coordinates
+abbrev pub reportFrom : ℕ → ℕ → M.Machine → H.Answer
+reportFrom room n m = refusedBy (when (M.unreported (m .phase)) (refuse 15 0 0) then outputShort room n) (H.Answer.reported (M.report m))
+
+pub report-said : (w : Words) (room : ℕ) (h : History) → Holds w h → reportAnswer w room ≡ historyAnswer (lengths w) h (Call.report room)
+report-said w room History.empty h = off (isHeld (w .state) (w .area)) (reportFrom room (w .state .shape .n) (machineIn w)) (H.Answer.refused (plainRefusal 15)) h
+report-said w room (History.fit s rs) h =
+    on (isHeld (w .state) (w .area)) (reportFrom room (w .state .shape .n) (machineIn w)) (H.Answer.refused (plainRefusal 15)) (h .test)
+    ∙ ap₂ (reportFrom room) (coordinates h) (h .is)
+    ∙ unless-is (when (M.unreported (run s rs .phase)) (refuse 15 0 0) then outputShort room (dimension s)) (History.fit s rs) (Call.report room) (H.Answer.reported (M.report (run s rs))) refl
+
+pub replies-said : (w : Words) (h : History) → Holds w h → repliesAnswer w ≡ historyAnswer (lengths w) h Call.replies
+replies-said w History.empty h = off (isHeld (w .state) (w .area)) (H.Answer.counted (w .state .entries)) (H.Answer.counted 0) h
+replies-said w (History.fit s rs) h =
+    on (isHeld (w .state) (w .area)) (H.Answer.counted (w .state .entries)) (H.Answer.counted 0) (h .test) ∙ ap H.Answer.counted (h .entries)
+
+-- the words ws of an entry, of a log of `size` words and an output of `room`
+abbrev pub entryFrom : Check → ℕ → List ℕ → H.Answer
+entryFrom short room ws = refusedBy (short then outputShort room (length ws)) (H.Answer.entered ws)
+
+log-short : {w : Words} {s : Setup} {rs : List M.Reply} → Held w s rs → shortLog w ≡ H.logShort (lengths w) rs
+log-short {w} h = ap (λ (k : ℕ). when (ltb (length (w .log)) k) (refuse 12 0 0)) (h .words)
+
+abbrev keptOf : ℕ → ℕ → ℕ → List ℕ → List ℕ
+keptOf entries n k ws = cond (ltb k entries) (entryIn n k ws) []
+
+entry-kept : {w : Words} {s : Setup} {rs : List M.Reply} (k : ℕ) → Held w s rs → entryKept w k ≡ H.entryAt rs k
+entry-kept {w} {s} {rs} k h =
+    ap (λ (e : ℕ). keptOf e (w .state .shape .n) k (logIn w)) (h .entries)
+    ∙ ap₂ (λ (n : ℕ) (ws : List ℕ). keptOf (length rs) n k ws) (coordinates h) (h .log)
+    ∙ entry-read s rs k (h .due)
+
+pub entry-said : (w : Words) (k room : ℕ) (h : History) → Holds w h → entryAnswer w k room ≡ historyAnswer (lengths w) h (Call.entry k room)
+entry-said w k room History.empty h = off (isHeld (w .state) (w .area)) (entryFrom (shortLog w) room (entryKept w k)) (H.Answer.entered []) h
+entry-said w k room (History.fit s rs) h =
+    on (isHeld (w .state) (w .area)) (entryFrom (shortLog w) room (entryKept w k)) (H.Answer.entered []) (h .test)
+    ∙ ap₂ (λ (c : Check) (ws : List ℕ). entryFrom c room ws) (log-short h) (entry-kept k h)
+    ∙ unless-is (H.logShort (lengths w) rs then outputShort room (length (H.entryAt rs k))) (History.fit s rs) (Call.entry k room) (H.Answer.entered (H.entryAt rs k)) refl
+
+abbrev recordOf : Setup → List ℕ → List ℕ
+recordOf s log = let ws = setupWords s ++ log in bytes (ws ++ trailer ws)
+
+record-is : (s : Setup) (rs : List M.Reply) → recordOf s (logWords rs) ≡ recordBytes s rs
+unfolding recordBytes recordWords
+record-is s rs = refl
+
+record-held : {w : Words} {s : Setup} {rs : List M.Reply} → Held w s rs → recordIn w ≡ recordBytes s rs
+record-held {w} {s} {rs} h = ap₂ recordOf (h .setup) (h .log) ∙ record-is s rs
+
+abbrev pub saveFrom : Check → ℕ → ℕ → List ℕ → H.Answer
+saveFrom short room needed bs = refusedBy (short then outputShort room needed) (H.Answer.saved bs)
+
+pub save-said : (w : Words) (room : ℕ) (h : History) → Holds w h → saveAnswer w room ≡ historyAnswer (lengths w) h (Call.save room)
+save-said w room History.empty h = off (isHeld (w .state) (w .area)) (saveFrom (shortLog w) room (length (recordIn w)) (recordIn w)) (H.Answer.saved []) h
+save-said w room (History.fit s rs) h =
+    on (isHeld (w .state) (w .area)) (saveFrom (shortLog w) room (length (recordIn w)) (recordIn w)) (H.Answer.saved []) (h .test)
+    ∙ ap₂ (λ (c : Check) (bs : List ℕ). saveFrom c room (length bs) bs) (log-short h) (record-held h)
+    ∙ ap (λ (k : ℕ). saveFrom (H.logShort (lengths w) rs) room k (recordBytes s rs)) (record-bytes s rs)
+    ∙ unless-is (H.logShort (lengths w) rs then outputShort room (8 * length (recordWords s rs))) (History.fit s rs) (Call.save room) (H.Answer.saved (recordBytes s rs)) refl

@@ -1,0 +1,85 @@
+-- `lbfgsb::reply` meets its contract: refused, or logged and the fit advanced. Assumes nothing.
+use mathlib.Core.Path.{_≡_, refl, sym, _∙_}
+use borrow.Author.Needs.{needs}
+use borrow.Author.Tests.{not-true, not-false}
+use lib.ListN.{length}
+use Rattle.driver.proofs.Laws.{ready-facts, held-ready}
+use Rattle.lbfgsb.specs.Words.{words, replied}
+use Rattle.lbfgsb.proofs.Answers.{passed, refused, not-both, said-passed, reply-unheld, reply-refused, reply-advanced}
+use Rattle.lbfgsb.proofs.reply.Statement.{statement}
+use Rattle.lbfgsb.proofs.reply.Tie as tie
+
+returns : tie.Need-returns
+returns c =
+    let s = c .before .before .before .before .before .before .before in
+    rw (c .refusal .ensures)
+    (reply-unheld (replied (s .args .said) (s .args .gradient .now)) (words (s .args .fit) (s .args .area .now) (s .args .log .now))
+    (sym (c .before .before .is-held .ensures) ∙ not-true _ (c .before .if1 .taken)))
+
+check-reply-requires : tie.Need-check-reply-requires
+check-reply-requires c κs =
+    let s = c .before .before .before .before .before .before in
+    ready-facts (s .args .fit) (length (s .args .area .now)) (held-ready (s .args .fit) (s .args .area .now) (sym (c .before .is-held .ensures) ∙ not-false _ (c .if1 .left))) .ready .n
+
+returns-2 : tie.Need-returns-2
+returns-2 c = absurd (not-both (c .enum-told2 .given .1))
+
+returns-3 : tie.Need-returns-3
+returns-3 c =
+    let k = c .before .before .before .before in
+    let h = k .before .before .before in
+    let s = h .before .before .before .before .before .before in
+    reply-refused (replied (s .args .said) (s .args .gradient .now)) (words (s .args .fit) (s .args .area .now) (s .args .log .now)) _
+    (sym (h .before .is-held .ensures) ∙ not-false _ (h .if1 .left))
+    (refused (k .check .given .1 ∙ c .before .check2 .given .1) (k .before .before .check-reply .ensures (s .args .area .now) (s .args .gradient .now) refl))
+
+log-entry-requires : tie.Need-log-entry-requires
+log-entry-requires c κs =
+    let k = c .before in
+    let s = k .before .before .before .before .before .before .before .before .before in
+    said-passed (s .args .fit) (s .args .area .now) (s .args .log .now) (replied (s .args .said) (s .args .gradient .now))
+    (passed (k .enum-told .given .1) (k .before .before .check-reply .ensures (s .args .area .now) (s .args .gradient .now) refl)) .1
+
+advanced-requires : tie.Need-advanced-requires
+advanced-requires c κs =
+    let k = c .before .before .before .before .before in
+    let h = k .before .before .before in
+    let s = h .before .before .before .before .before .before in (
+      held-ready (s .args .fit) (s .args .area .now) (sym (h .before .is-held .ensures) ∙ not-false _ (h .if1 .left)),
+      said-passed (s .args .fit) (s .args .area .now) (s .args .log .now) (replied (s .args .said) (s .args .gradient .now))
+          (passed (k .enum-told .given .1) (k .before .before .check-reply .ensures (s .args .area .now) (s .args .gradient .now) refl)) .0,
+    )
+
+returns-4 : tie.Need-returns-4
+returns-4 c =
+    let k = c .before .before .before .before .before .before .before .before in
+    let h = k .before .before .before in
+    let s = h .before .before .before .before .before .before in
+    let z : length (c .before .before .advanced .last .1 .0) ≡ length (s .args .area .now) = search needs in
+    reply-advanced (replied (s .args .said) (s .args .gradient .now)) (s .args .fit) (c .before .before .advanced .result) (s .args .area .now) _ (s .args .log .now) _
+    (sym (h .before .is-held .ensures) ∙ not-false _ (h .if1 .left))
+    (passed (k .enum-told .given .1) (k .before .before .check-reply .ensures (s .args .area .now) (s .args .gradient .now) refl)) z (c .before .before .advanced .ensures)
+    (c .before .before .before .before .before .before .log-entry .ensures)
+
+pub reply-spec : {M : Type 1} → statement M
+reply-spec =
+    tie.close
+    (tie.spec
+    (λ c κs. search needs)
+    (λ c κs. search needs)
+    (λ c. search needs)
+    returns
+    check-reply-requires
+    (λ c. search needs)
+    (λ c. search needs)
+    (λ c. search needs)
+    (λ c. search needs)
+    (λ c. search needs)
+    returns-2
+    (λ c. search needs)
+    returns-3
+    log-entry-requires
+    advanced-requires
+    (λ c. search needs)
+    (λ c. search needs)
+    returns-4)
