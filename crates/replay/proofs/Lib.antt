@@ -2,4 +2,3 @@ pub mod Words
 pub mod Entries
 pub mod Answers
 pub mod Laws
-pub mod Read
