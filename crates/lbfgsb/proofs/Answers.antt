@@ -10,7 +10,7 @@ use lib.Dec.{ltb}
 use lib.ListN.{length, take, drop}
 use lib.Ieee.{Float}
 use Rattle.definition.specs.Problem as P
-use Rattle.definition.specs.Problem.{Refusal, Check, refuse, when, _then_, validate, areaNeeded}
+use Rattle.definition.specs.Problem.{Refusal, refuse, when, _then_, validate, areaNeeded}
 use Rattle.definition.specs.Machine as M
 use Rattle.definition.specs.Machine.{checkDue}
 use Rattle.definition.specs.Log.{entryWords, logWords}
@@ -19,43 +19,24 @@ use Rattle.definition.specs.History as H
 use Rattle.definition.specs.History.{Call, History, historyStep, historyAnswer, checkReply}
 use Rattle.definition.proofs.Accepted.{both-passed, test-failed}
 use Rattle.area.proofs.Sizes.{behind}
-use Rattle.problem.specs.Setups.{setupIn, placesIn, checkOf, refusalOf}
+use Rattle.problem.specs.Setups.{setupIn, placesIn}
 use Rattle.problem.specs.declared.Options.{Options}
 use Rattle.problem.proofs.Accepted.{accepted}
-use Rattle.problem.specs.declared.Refusal as D
-use Rattle.problem.specs.declared.Checked.{Checked}
-use Rattle.problem.specs.declared.Checked.the-variants.{Passed, Refused}
 use Rattle.fit.specs.State.{machineOf}
 use Rattle.fit.specs.declared.Fit.{Fit}
 use Rattle.opening.specs.Opened.{Room, Fits, Opened}
 use Rattle.driver.specs.Replies.{isHeld, Marks}
 use Rattle.lbfgsb.specs.Words.{Words, words, lengths, Held, Holds}
 use Rattle.lbfgsb.specs.Did.{Started, checkAt, Moved, Replied}
-use Rattle.lbfgsb.specs.Moves.{written, checkSaid, Advances}
-use Rattle.lbfgsb.proofs.Laws.{Reached, reached-marked, reached-held, opened-reached, held-advanced, written-length}
+use Rattle.accept.specs.Moves.{written, checkSaid, Advances}
+use Rattle.held.proofs.Laws.{Reached, reached-marked, reached-held, opened-reached}
+use Rattle.accept.proofs.Laws.{held-advanced, written-length}
 
 unlike : (r : Refusal) → H.Answer.refused r ≡ H.Answer.done → ⊥
 unlike r e = let z : _≡_ {A = ℕ} 0 1 = cc in omega arith
 
 other : (r : Refusal) → H.Answer.done ≡ H.Answer.refused r → ⊥
 other r e = let z : _≡_ {A = ℕ} 0 1 = cc in omega arith
-
--- ---- checks, one after the other
-
-pub passed : {k : Checked} {a : Check} → k ≡ Passed → checkOf k ≡ a → a ≡ none
-passed e h = sym h ∙ ap checkOf e
-
-pub refused : {k : Checked} {q : D.Refusal} {a : Check} → k ≡ Refused q → checkOf k ≡ a → a ≡ some (refusalOf q)
-refused e h = sym h ∙ ap checkOf e
-
-pub first-refuses : {k : Checked} {q : D.Refusal} {a : Check} (b : Check) → k ≡ Refused q → checkOf k ≡ a → checkOf k ≡ (a then b)
-first-refuses b e h = rw (← h, e) refl
-
-pub not-both : {q : D.Refusal} → Refused q ≡ Passed → ⊥
-not-both e = let z : _≡_ {A = ℕ} 0 1 = cc in omega arith
-
-pub rest-decides : {a : Check} (b : Check) → a ≡ none → b ≡ (a then b)
-rest-decides b e = rw e refl
 
 -- ---- start
 

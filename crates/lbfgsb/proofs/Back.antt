@@ -3,7 +3,7 @@ use Prim.Native.Nat.{ℕ, _+_, _-_, _≤_, _<_}
 use native.Mathlib.Omega.{arith}
 use mathlib.Core.Path.{_≡_, refl, sym, ap, ap₂, _∙_, subst}
 use mathlib.Core.Bool.{Bool, true, false, false≢true}
-use mathlib.Core.Logic.{_⊎_, inl, inr, ⊎-elim}
+use mathlib.Core.Logic.{inl, inr, ⊎-elim}
 use mathlib.Core.List.{List, _++_, append-assoc}
 use mathlib.Core.Option.{none, some}
 use lib.Dec.{ltb}
@@ -26,13 +26,13 @@ use Rattle.problem.specs.declared.Refusal as Q
 use Rattle.fit.specs.declared.Fit.{Fit}
 use Rattle.driver.specs.Replies.{isHeld}
 use Rattle.replay.specs.Replays.{ReplayedTo, RefusedAt}
-use Rattle.lbfgsb.specs.declared.Answer.{Answer}
-use Rattle.lbfgsb.specs.declared.Answer.the-variants as A
-use Rattle.lbfgsb.specs.Words.{Words, words, lengths, setupOf, logIn, Held, Holds, next, kept}
+use Rattle.replay.specs.declared.Replayed.{Replayed}
+use Rattle.replay.specs.declared.Replayed.the-variants as R
+use Rattle.lbfgsb.specs.Words.{Words, words, lengths, setupOf, logIn, Held, Holds}
 use Rattle.lbfgsb.specs.Did.{checkBack, Spoiled, TakesBack, TakenBack}
-use Rattle.lbfgsb.specs.Back.{struckOut, Built, Unbuilt, Builds}
-use Rattle.lbfgsb.proofs.Laws.{reached-held, held-reached}
-use Rattle.lbfgsb.proofs.Reread.{log-front, behind, log-unrefused, log-replayed}
+use Rattle.rebuild.specs.Built.{struckOut, Built, Unbuilt, Builds}
+use Rattle.held.proofs.Laws.{reached-held, held-reached}
+use Rattle.rebuild.proofs.Reread.{log-front, behind, log-unrefused, log-replayed}
 
 -- ---- the check is the history's
 
@@ -185,16 +185,16 @@ module _ (t : Fit) (a : List Float) (l : List ℕ) (j : ℕ) (test : isHeld t a 
           (inl (refl, rw test (record { setup = h .setup; words = fewer-words; log = refl; stopped = h .stopped; is = h .is })));
     }
 
-  module _ (c : Q.Refusal) (b : List Float) (h : Unbuilt (setupOf was) (logIn was) (t .entries - j) (length l) (length a) c b) where
+  module _ (number : ℕ) (b : List Float) (h : Unbuilt (setupOf was) (logIn was) (t .entries - j) (length l) (length a) number b) where
     -- no history is refused
     unrefused : (s : Setup) (rs : List M.Reply) → Held was s rs → ⊥
     unrefused s rs k =
-        log-unrefused s (length l) rs (k .due) (omega (arith, k .words)) (t .entries - j) (h .number) (omega (arith, k .entries))
-        (subst (λ (ws : List ℕ). RefusedAt s ws (t .entries - j) (length l) (h .number)) (k .log)
-        (subst (λ (x : Setup). RefusedAt x (logIn was) (t .entries - j) (length l) (h .number)) (k .setup) (h .is (subst Accepted (sym (k .setup)) (k .accepted)))))
+        log-unrefused s (length l) rs (k .due) (omega (arith, k .words)) (t .entries - j) number (omega (arith, k .entries))
+        (subst (λ (ws : List ℕ). RefusedAt s ws (t .entries - j) (length l) number) (k .log)
+        (subst (λ (x : Setup). RefusedAt x (logIn was) (t .entries - j) (length l) number) (k .setup) (h .is (subst Accepted (sym (k .setup)) (k .accepted)))))
 
     -- there is room for as many words
-    always-17 : h .number ≡ 17
+    always-17 : number ≡ 17
     always-17 = ⊎-elim (λ e. e) (λ e. absurd (omega (arith, e .1, length-take-le (t .words) l room))) (h .which)
 
     spoiled : Spoiled j was (words t b l)
@@ -203,8 +203,8 @@ module _ (t : Fit) (a : List Float) (l : List ℕ) (j : ℕ) (test : isHeld t a 
       is = λ k. subst (λ (i : ℕ). RefusedAt (setupOf was) (logIn was) (t .entries - j) (length l) i) always-17 (h .is k);
     }
 
-    back-zeroed : TakenBack j was (words t b l) (H.Answer.refused (refusalOf c))
-    back-zeroed = record {
+    back-zeroed : (c : Q.Refusal) → refusalOf c ≡ plainRefusal number → TakenBack j was (words t b l) (H.Answer.refused (refusalOf c))
+    back-zeroed c e = record {
       did = record {
         sized = ap (λ (x : ℕ). record { area = x; log = length l }) (ap length (h .area) ∙ length-replicate (length a) zero64);
         holds = fits (λ g. Holds (words t b l) (historyStep (lengths was) g (Call.takeBack j))) (λ s rs k. absurd (unrefused s rs k));
@@ -212,22 +212,22 @@ module _ (t : Fit) (a : List Float) (l : List ℕ) (j : ℕ) (test : isHeld t a 
       };
       back =
           subst (λ (o : Check). TakesBack j o was (words t b l) (H.Answer.refused (refusalOf c))) (sym passed)
-          (inr (ap H.Answer.refused (h .refusal ∙ ap plainRefusal always-17), spoiled));
+          (inr (ap H.Answer.refused (e ∙ ap plainRefusal always-17), spoiled));
     }
 
   -- ---- by the answer of the replay
 
-  abbrev Answered : Answer → List Float → Type 0
+  abbrev Answered : Replayed → List Float → Type 0
   Answered q b = Builds (setupOf was) (logIn was) (t .entries - j) (length l) (length a) q b
 
-  pub answered-zeroed : (q : Answer) (c : Q.Refusal) → q ≡ A.Refused c → (b : List Float) → Answered q b → TakenBack j was (words (next t q) b l) (kept q)
-  answered-zeroed q c e b h =
-      subst (λ (x : Answer). TakenBack j was (words (next t x) b l) (kept x)) (sym e) (back-zeroed c b (subst (λ (x : Answer). Answered x b) e h))
+  pub answered-zeroed : (q : Replayed) (number : ℕ) (c : Q.Refusal) → q ≡ R.Refused number → refusalOf c ≡ plainRefusal number → (b : List Float) → Answered q b
+      → TakenBack j was (words t b l) (H.Answer.refused (refusalOf c))
+  answered-zeroed q number c e r b h = back-zeroed number b (subst (λ (x : Replayed). Answered x b) e h) c r
 
-  pub answered-fewer : (q : Answer) (f : Fit) → q ≡ A.Kept f → (b : List Float) → Answered q b → f .words ≤ t .words
-  answered-fewer q f e b h = fewer-words f b (subst (λ (x : Answer). Answered x b) e h)
+  pub answered-fewer : (q : Replayed) (f : Fit) → q ≡ R.Done f → (b : List Float) → Answered q b → f .words ≤ t .words
+  answered-fewer q f e b h = fewer-words f b (subst (λ (x : Replayed). Answered x b) e h)
 
-  pub answered-back : (q : Answer) (f : Fit) → q ≡ A.Kept f → (b : List Float) → Answered q b → (m : List ℕ) → m ≡ struckOut (f .words) (t .words) l
+  pub answered-back : (q : Replayed) (f : Fit) → q ≡ R.Done f → (b : List Float) → Answered q b → (m : List ℕ) → m ≡ struckOut (f .words) (t .words) l
       → TakenBack j was (words f b m) H.Answer.done
   answered-back q f e b h m z =
-      subst (λ (k : List ℕ). TakenBack j was (words f b k) H.Answer.done) (sym z) (taken-back f b (subst (λ (x : Answer). Answered x b) e h))
+      subst (λ (k : List ℕ). TakenBack j was (words f b k) H.Answer.done) (sym z) (taken-back f b (subst (λ (x : Replayed). Answered x b) e h))

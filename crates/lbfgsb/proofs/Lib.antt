@@ -1,12 +1,6 @@
-pub mod Laws
 pub mod Answers
-pub mod Replying
-pub mod Pasted
-pub mod Reread
-pub mod Built
 pub mod Back
 pub mod Restored
-pub mod Entries
 pub mod Said
 pub mod Reading
 pub mod Areas

@@ -1,9 +1,9 @@
--- Laws of the reads: the answer of each return, what it writes, and the parts of an area that are lent. Assumes nothing.
-use Prim.Native.Nat.{ℕ, _+_, _-_, _*_, _≤_, _<_}
+-- Laws of the reads: the answer of each return, and what it writes. Assumes nothing.
+use Prim.Native.Nat.{ℕ, _+_, _*_, _≤_, _<_}
 use native.Mathlib.Omega.{arith}
 use mathlib.Core.Path.{_≡_, refl, sym, ap, ap₂, _∙_}
 use mathlib.Core.Bool.{Bool, true, false}
-use mathlib.Core.List.{List, [], _++_}
+use mathlib.Core.List.{List, []}
 use mathlib.Core.Option.{Option, none, some}
 use borrow.Author.Tests.{lt-ltb, le-ltb}
 use lib.Dec.{ltb}
@@ -11,37 +11,26 @@ use lib.ListN.{length, take, drop, length-append, length-drop, length-set}
 use lib.Seq.{take-at, drop-at, length-take-le}
 use lib.Ieee.{Float}
 use Rattle.definition.specs.Gradient as G
-use Rattle.definition.specs.Problem as P
 use Rattle.definition.specs.Problem.{refuse, when, _then_}
 use Rattle.definition.specs.Machine as M
-use Rattle.definition.specs.Record.{plainRefusal, trailer, bytes}
+use Rattle.definition.specs.Record.{plainRefusal}
 use Rattle.definition.specs.History as H
 use Rattle.definition.specs.History.{Call, outputShort}
-use Rattle.definition.proofs.Bytes.{bytes-length}
-use Rattle.area.specs.Area.{Vecs, view, X, Lower, Upper, X0, Trial}
-use Rattle.area.proofs.Laws.{length-view, part-lent}
-use Rattle.area.proofs.Sizes.{within}
-use Rattle.problem.specs.Setups.{countOf, refusalOf}
-use Rattle.problem.specs.declared.MaybeCount.{MaybeCount}
-use Rattle.problem.specs.declared.MaybeCount.the-variants as K
+use Rattle.area.specs.Area.{Vecs, view, X, Trial}
+use Rattle.problem.specs.Setups.{refusalOf}
 use Rattle.problem.specs.declared.Refusal.{Refusal}
 use Rattle.fit.specs.State.{machine, machineOf, phaseOf}
 use Rattle.fit.specs.declared.Fit.{Fit}
 use Rattle.question.specs.Reports.{pointAsked, written, reportOf}
 use Rattle.question.specs.declared.Outcome.{Outcome}
-use Rattle.record.specs.Records.{Savable, setupSize, savedWords, savedRecord, overwritten}
-use Rattle.record.proofs.Saving.{saved-size}
+use Rattle.record.specs.Records.{setupSize}
 use Rattle.driver.specs.Replies.{isHeld}
-use Rattle.driver.proofs.Laws.{ReadyFacts, ready-facts, held-ready}
 use Rattle.lbfgsb.specs.Words.{words}
 use Rattle.lbfgsb.specs.Did.{Written, refusedBy, questionOf, questionAnswer, reportAnswer, frontEntry, entryIn, entryKept, shortLog, entryAnswer, recordIn, saveAnswer, taken, Read, Counted}
-use Rattle.lbfgsb.specs.Reading.{Begins, Stands}
-use Rattle.lbfgsb.proofs.Entries.{entry-words, entry-room}
+use Rattle.lookup.specs.Reading.{Begins}
+use Rattle.lookup.proofs.Entries.{entry-words, entry-room}
 use Rattle.lbfgsb.proofs.Said.{on, off, reportFrom, entryFrom, saveFrom, question-said, report-said, replies-said, entry-said, save-said}
-
--- what the test gives
-pub facts : (t : Fit) (a : List Float) → isHeld t a ≡ true → ReadyFacts t (length a)
-facts t a h = ready-facts t (length a) (held-ready t a h)
+use Rattle.lookup.proofs.Saving.{vector-long, record-long}
 
 -- ---- an output slice
 
@@ -98,11 +87,6 @@ ended m (M.Phase.gradient w) k = absurd (omega arith)
 ended m (M.Phase.probe w i side) k = absurd (omega arith)
 ended m M.Phase.notice k = absurd (omega arith)
 ended m (M.Phase.ended t) k = refl
-
-vector-long : (t : Fit) (a : List Float) (q : ℕ) → q < 16 → isHeld t a ≡ true → length (view a (t .shape .n) q) ≡ t .shape .n
-vector-long t a q k h =
-    let f = facts t a h in
-    length-view a (t .shape .n) q (omega (arith, within (t .shape .n) (t .shape .m) q (omega arith), f .area))
 
 module _ (t : Fit) (a : List Float) (l : List ℕ) (out : List Float) where
   abbrev Questioned : H.Answer → List Float → Type 0
@@ -277,46 +261,6 @@ module _ (t : Fit) (a : List Float) (l : List ℕ) (k : ℕ) (out : List ℕ) wh
 
 -- ---- the record
 
-places-few : (k : MaybeCount) (m : ℕ) → P.orElse (countOf k) 10 ≡ m → m ≤ 16 → P.orElse (countOf k) 0 ≤ 255
-places-few K.Absent m e h = omega arith
-places-few (K.Given j) m e h = omega arith
-
-pub held-stands : (t : Fit) (a : List Float) → isHeld t a ≡ true → Stands t a
-held-stands t a h =
-    let f = facts t a h in
-    let sound = f .ready .sound in
-    record {
-      room = omega (arith, within (t .shape .n) (t .shape .m) X0 (omega arith), f .area);
-      savable = record {
-        most = omega (arith, vector-long t a X0 (omega arith) h, f .ready .n);
-        pairs = places-few (t .options .maxcor) (t .shape .m) (f .places) (sound .few);
-        lower = λ b. vector-long t a Lower (omega arith) h ∙ sym (vector-long t a X0 (omega arith) h);
-        upper = λ b. vector-long t a Upper (omega arith) h ∙ sym (vector-long t a X0 (omega arith) h);
-      };
-    }
-
--- the words of a setup are few
-setup-size : {k : ℕ} (b : Bool) (n : ℕ) → k ≡ setupSize b n → n ≤ 64 → k ≤ 199
-setup-size true n e h = omega arith
-setup-size false n e h = omega arith
-
-pub setup-few : {k : ℕ} (t : Fit) → k ≡ setupSize (t .options .bounded) (t .shape .n) → t .shape .n ≤ 64 → k ≤ 199
-setup-few t e h = setup-size (t .options .bounded) (t .shape .n) e h
-
--- eight bytes a word: setup, log and trailer
-record-long : (t : Fit) (a : List Float) (l : List ℕ) → isHeld t a ≡ true → t .words ≤ length l
-    → length (recordIn (words t a l)) ≡ 8 * (setupSize (t .options .bounded) (t .shape .n) + t .words + 4)
-record-long t a l h r =
-    let n = t .shape .n in
-    let log = take (t .words) l in
-    let ws = savedWords (t .options) (view a n X0) (view a n Lower) (view a n Upper) log in
-    let size : length ws ≡ setupSize (t .options .bounded) (length (view a n X0)) + length log
-    = saved-size (t .options) (view a n X0) (view a n Lower) (view a n Upper) (held-stands t a h .savable) log in
-    let start : setupSize (t .options .bounded) (length (view a n X0)) ≡ setupSize (t .options .bounded) n
-    = ap (setupSize (t .options .bounded)) (vector-long t a X0 (omega arith) h) in
-    bytes-length (ws ++ trailer ws)
-    ∙ ap (λ (k : ℕ). 8 * k) (length-append ws (trailer ws) ∙ omega (arith, size, start, length-take-le (t .words) l r))
-
 module _ (t : Fit) (a : List Float) (l : List ℕ) (out : List ℕ) where
   abbrev Saved : H.Answer → List ℕ → Type 0
   Saved o out′ = Read (Call.save (length out)) (words t a l) o (saveAnswer (words t a l) (length out)) out out′
@@ -363,30 +307,3 @@ module _ (t : Fit) (a : List Float) (l : List ℕ) (out : List ℕ) where
       (save-held false h (le-ltb (length l) (t .words) r)
       (ap H.Answer.saved front ∙ sym (fits (length out) (length whole) (H.Answer.saved whole) (omega (arith, long)))))
       (rw front rest)
-
--- ---- the parts lent
-
--- the n words from vector q on, as they are lent
-abbrev lent : ℕ → List Float → ℕ → List Float
-lent n a q = take (q * n + n - q * n) (drop (q * n) a)
-
-module _ (t : Fit) (a : List Float) (l : List ℕ) where
-  pub record-lent : {size : ℕ} → Stands t a → t .words ≤ length l → 8 * (setupSize (t .options .bounded) (t .shape .n) + t .words + 4) ≤ size
-      → Savable (t .options) (lent (t .shape .n) a X0) (lent (t .shape .n) a Lower) (lent (t .shape .n) a Upper)
-      × (8 * (setupSize (t .options .bounded) (length (lent (t .shape .n) a X0)) + length (take (t .words - 0) l) + 4) ≤ size)
-  record-lent h r f =
-      let n = t .shape .n in
-      let parts : Savable (t .options) (lent n a X0) (lent n a Lower) (lent n a Upper) = rw (part-lent a X0 n, part-lent a Lower n, part-lent a Upper n) (h .savable) in
-      let long : length (lent n a X0) ≡ n = ap length (part-lent a X0 n) ∙ length-view a n X0 (omega (arith, h .room)) in
-      let log : length (take (t .words - 0) l) ≡ t .words = length-take-le (t .words - 0) l (omega arith) ∙ omega arith in
-      (parts, rw (long, log) f)
-
-  pub record-put : (out out′ : List ℕ)
-      → out′ ≡ overwritten (bytes (savedRecord (t .options) (lent (t .shape .n) a X0) (lent (t .shape .n) a Lower) (lent (t .shape .n) a Upper) (take (t .words - 0) l))) out
-      → out′ ≡ written (recordIn (words t a l)) out
-  record-put out out′ e =
-      let n = t .shape .n in
-      let log : take (t .words - 0) l ≡ take (t .words) l = let all : t .words - 0 ≡ t .words = omega arith in ap (λ (k : ℕ). take k l) all in
-      let is : bytes (savedRecord (t .options) (lent n a X0) (lent n a Lower) (lent n a Upper) (take (t .words - 0) l)) ≡ recordIn (words t a l)
-      = rw (part-lent a X0 n, part-lent a Lower n, part-lent a Upper n, log) in
-      e ∙ ap (λ (bs : List ℕ). written bs out) is

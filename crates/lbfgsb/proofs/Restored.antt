@@ -2,42 +2,35 @@
 use Prim.Native.Nat.{ℕ, _+_, _-_, _*_, _≤_}
 use native.Mathlib.Omega.{arith}
 use mathlib.Core.Path.{_≡_, refl, sym, ap, ap₂, _∙_, subst}
-use mathlib.Core.Bool.{true}
 use mathlib.Core.Logic.{_⊎_, inl, inr, ⊎-elim}
 use mathlib.Core.List.{List}
-use lib.ListN.{length, take, drop, length-append, length-drop, length-replicate}
-use lib.Seq.{take-at, drop-at, drop-drop}
+use lib.ListN.{length, drop, length-append, length-drop, length-replicate}
+use lib.Seq.{take-at, drop-at}
 use lib.Ieee.{Float}
 use Rattle.definition.specs.Number.{zero64}
-use Rattle.definition.specs.Problem.{Setup, areaNeeded, areaWords, maxcorOf}
-use Rattle.definition.specs.Log.{entriesOf}
-use Rattle.definition.specs.Record.{Reading, readRecord, readingOf, plainRefusal, wordsOf, setupIn}
+use Rattle.definition.specs.Problem.{Setup, areaNeeded}
+use Rattle.definition.specs.Record.{Reading, readRecord, readingOf, plainRefusal, wordsOf}
 use Rattle.definition.specs.History as H
 use Rattle.definition.specs.History.{History, restored, restoredAnswer}
-use Rattle.definition.proofs.Accepted.{accepted-in-limits}
 use Rattle.definition.proofs.Bytes.{wordsOf-length}
-use Rattle.problem.specs.Setups.{refusalOf, placesIn}
+use Rattle.problem.specs.Setups.{refusalOf}
 use Rattle.problem.specs.declared.Options.{Options}
 use Rattle.problem.specs.declared.Refusal as Q
 use Rattle.fit.specs.declared.Fit.{Fit}
-use Rattle.opening.specs.Opened.{Room, Opened}
-use Rattle.driver.specs.Replies.{isReady}
 use Rattle.driver.proofs.Laws.{zeroed-unheld}
 use Rattle.record.specs.declared.Frame.{Frame}
 use Rattle.record.specs.declared.Parsed.{Parsed}
 use Rattle.record.specs.declared.Parsed.the-variants as D
-use Rattle.record.specs.Records.{wordsIn, setupFrom, floatsOf, Opens, Parsing}
-use Rattle.record.proofs.Reading.{words-drop, needed}
-use Rattle.record.proofs.Floats.{opened-setup}
+use Rattle.record.specs.Records.{Opens, Parsing}
 use Rattle.replay.specs.Replays.{ReplayedTo}
-use Rattle.lbfgsb.specs.declared.Answer.{Answer}
-use Rattle.lbfgsb.specs.declared.Answer.the-variants as A
-use Rattle.lbfgsb.specs.Words.{Words, words, lengths, Holds, next, kept}
+use Rattle.replay.specs.declared.Replayed.{Replayed}
+use Rattle.replay.specs.declared.Replayed.the-variants as R
+use Rattle.lbfgsb.specs.Words.{Words, words, lengths, Holds}
 use Rattle.lbfgsb.specs.Did.{Restores, Restored}
-use Rattle.lbfgsb.specs.Back.{entriesIn, headed, Built, Unbuilt, Builds}
-use Rattle.lbfgsb.proofs.Laws.{reached-held, reached-ready, opened-reached}
-use Rattle.lbfgsb.proofs.Built.{opened-here}
-use Rattle.lbfgsb.proofs.Reread.{entries-most, refused-read, replayed-all, replayed-read}
+use Rattle.rebuild.specs.Built.{headed, Built, Unbuilt, Builds}
+use Rattle.held.proofs.Laws.{reached-held}
+use Rattle.rebuild.proofs.Recorded.{setup, entries, entries-long, entries-within, reading}
+use Rattle.rebuild.proofs.Reread.{entries-most, refused-read, replayed-all, replayed-read}
 
 -- ---- what the reading says of every history
 
@@ -67,55 +60,11 @@ restore-refused bs w c e = restores bs w w (H.Answer.refused (refusalOf c)) (Rea
 
 -- ---- by the answer of the checks ahead of the entries
 
-pub parsed-one : (p : Parsed) (c : Q.Refusal) (o : Options) (f : Frame) → p ≡ D.Refused c → p ≡ D.Setup o f → ⊥
-parsed-one p c o f e h = let z : _≡_ {A = ℕ} 0 1 = cc in absurd (omega arith)
-
 pub parsed-refused : (bs : List ℕ) (w : Words) (p : Parsed) (c : Q.Refusal) → p ≡ D.Refused c → Parsing bs (length (w .area)) p → Restored bs w w (H.Answer.refused (refusalOf c))
 parsed-refused bs w p c e h = restore-refused bs w c (subst (Parsing bs (length (w .area))) e h (length (w .log)))
 
 pub parsed-opens : (bs : List ℕ) (size : ℕ) (p : Parsed) (o : Options) (f : Frame) → p ≡ D.Setup o f → Parsing bs size p → Opens bs size o f
 parsed-opens bs size p o f e h = subst (Parsing bs size) e h
-
--- ---- a record that opens
-
-module _ (bs : List ℕ) (size : ℕ) (o : Options) (f : Frame) (h : Opens bs size o f) where
-  abbrev setup : Setup
-  setup = setupIn (wordsIn bs f)
-
-  abbrev entries : List ℕ
-  entries = entriesIn bs f
-
-  pub entries-long : length entries ≡ f .words - f .setup
-  entries-long = wordsOf-length (f .words - f .setup) (drop (f .at + 8 * f .setup) bs)
-
-  pub entries-within : f .at + 8 * f .setup + 8 * (f .words - f .setup) ≤ length bs
-  entries-within = omega (arith, h .placed .within, h .whole)
-
-  entries-behind : drop (f .setup) (wordsIn bs f) ≡ entries
-  entries-behind = words-drop (f .setup) (f .words) (drop (f .at) bs) (h .whole) ∙ ap (wordsOf (f .words - f .setup)) (drop-drop (8 * f .setup) (f .at) bs)
-
-  reading : (room : ℕ) → readRecord (record { area = size; log = room }) bs ≡ readingOf setup (entriesOf setup room entries)
-  reading room = h .reads room ∙ ap (λ (ws : List ℕ). readingOf setup (entriesOf setup room ws)) entries-behind
-
-  -- what `begin` asks
-  pub opens-room : Room o (f .n) size
-  opens-room =
-      let l = accepted-in-limits setup (h .accepted) in
-      let places : maxcorOf setup ≡ placesIn o = ap maxcorOf (h .same) in
-      let need : areaWords (f .n) (placesIn o) ≡ areaNeeded setup = needed bs f (h .placed) (h .whole) o (h .options) (placesIn o) (areaWords (f .n) (placesIn o)) refl refl in
-      record { all = enough (f .n) (placesIn o) size (omega (arith, need, h .room)); few = omega (arith, l .pairs, places); some = omega (arith, l .pairs, places) }
-    where
-      enough : (n m size : ℕ) → areaWords n m ≤ size → (16 + 4 * m) * n ≤ size
-      enough n m size k = omega arith
-
-  -- the fit that `begin` makes of it
-  pub record-opened : {v : List Float} {r : Fit} {b : List Float} → v ≡ floatsOf (take (f .setup - 7) (drop 7 (wordsIn bs f))) → length b ≡ size
-      → Opened o (f .n) (setupFrom o v (f .n)) size r b → Opened o (f .n) (setupIn (wordsIn bs f)) (length b) r b
-  record-opened {v} {r} {b} e z k =
-      opened-here z (subst (λ (s : Setup). Opened o (f .n) s size r b) (ap (λ (x : List Float). setupFrom o x (f .n)) e ∙ opened-setup bs size o f h) k)
-
-  pub record-ready : {r : Fit} {b : List Float} → length b ≡ size → Opened o (f .n) (setupIn (wordsIn bs f)) (length b) r b → isReady r (length b) ≡ true
-  record-ready {r} {b} z k = reached-ready (opened-reached (h .accepted) (subst (λ (i : ℕ). areaNeeded setup ≤ i) (sym z) (h .room)) k)
 
 module _ (bs : List ℕ) (g : Fit) (a : List Float) (l : List ℕ) (o : Options) (f : Frame) (h : Opens bs (length a) o f) where
   abbrev limit : ℕ
@@ -172,31 +121,31 @@ module _ (bs : List ℕ) (g : Fit) (a : List Float) (l : List ℕ) (o : Options)
         (drop-at (wordsOf (t .words) (drop (f .at + 8 * f .setup) bs)) (drop (length (wordsOf (t .words) (drop (f .at + 8 * f .setup) bs))) l) (t .words) copied-long
         ∙ ap (λ (i : ℕ). drop i l) copied-long))
 
-  module _ (c : Q.Refusal) (b : List Float) (k : Unbuilt (setup bs (length a) o f h) (entries bs (length a) o f h) limit (length l) (length a) c b) where
-    restore-zeroed : Restored bs (words g a l) (words g b l) (H.Answer.refused (refusalOf c))
-    restore-zeroed =
-        restores bs (words g a l) (words g b l) (H.Answer.refused (refusalOf c)) (Reading.refusedAtEntry (plainRefusal (k .number)))
+  module _ (number : ℕ) (b : List Float) (k : Unbuilt (setup bs (length a) o f h) (entries bs (length a) o f h) limit (length l) (length a) number b) where
+    restore-zeroed : (c : Q.Refusal) → refusalOf c ≡ plainRefusal number → Restored bs (words g a l) (words g b l) (H.Answer.refused (refusalOf c))
+    restore-zeroed c e =
+        restores bs (words g a l) (words g b l) (H.Answer.refused (refusalOf c)) (Reading.refusedAtEntry (plainRefusal number))
         (reading bs (length a) o f h (length l)
         ∙ ap (readingOf (setup bs (length a) o f h))
-        (refused-read (setup bs (length a) o f h) (entries bs (length a) o f h) limit (length l) (k .number) (omega (arith, entries-long bs (length a) o f h)) (k .is (h .accepted))))
+        (refused-read (setup bs (length a) o f h) (entries bs (length a) o f h) limit (length l) number (omega (arith, entries-long bs (length a) o f h)) (k .is (h .accepted))))
         (ap (λ (x : ℕ). record { area = x; log = length l }) (ap length (k .area) ∙ length-replicate (length a) zero64))
-        (ap H.Answer.refused (k .refusal))
+        (ap H.Answer.refused e)
         (record { state = refl; area = k .area; log = refl })
         (inr refl)
 
   -- ---- by the answer of the replay
 
-  abbrev Answered : Answer → List Float → Type 0
+  abbrev Answered : Replayed → List Float → Type 0
   Answered q b = Builds (setup bs (length a) o f h) (entries bs (length a) o f h) limit (length l) (length a) q b
 
-  pub answered-zeroed : (q : Answer) (c : Q.Refusal) → q ≡ A.Refused c → (b : List Float) → Answered q b → Restored bs (words g a l) (words (next g q) b l) (kept q)
-  answered-zeroed q c e b k =
-      subst (λ (x : Answer). Restored bs (words g a l) (words (next g x) b l) (kept x)) (sym e) (restore-zeroed c b (subst (λ (x : Answer). Answered x b) e k))
+  pub answered-zeroed : (q : Replayed) (number : ℕ) (c : Q.Refusal) → q ≡ R.Refused number → refusalOf c ≡ plainRefusal number → (b : List Float) → Answered q b
+      → Restored bs (words g a l) (words g b l) (H.Answer.refused (refusalOf c))
+  answered-zeroed q number c e r b k = restore-zeroed number b (subst (λ (x : Replayed). Answered x b) e k) c r
 
-  pub answered-within : (q : Answer) (t : Fit) → q ≡ A.Kept t → (b : List Float) → Answered q b → (f .at + 8 * f .setup + 8 * t .words ≤ length bs) × (t .words ≤ length l)
-  answered-within q t e b k = copies-within t b (subst (λ (x : Answer). Answered x b) e k)
+  pub answered-within : (q : Replayed) (t : Fit) → q ≡ R.Done t → (b : List Float) → Answered q b → (f .at + 8 * f .setup + 8 * t .words ≤ length bs) × (t .words ≤ length l)
+  answered-within q t e b k = copies-within t b (subst (λ (x : Replayed). Answered x b) e k)
 
-  pub answered-kept : (q : Answer) (t : Fit) → q ≡ A.Kept t → (b : List Float) → Answered q b
+  pub answered-kept : (q : Replayed) (t : Fit) → q ≡ R.Done t → (b : List Float) → Answered q b
       → (m : List ℕ) → m ≡ headed (wordsOf (t .words) (drop (f .at + 8 * f .setup) bs)) l → Restored bs (words g a l) (words t b m) H.Answer.done
   answered-kept q t e b k m z =
-      subst (λ (x : List ℕ). Restored bs (words g a l) (words t b x) H.Answer.done) (sym z) (restore-kept t b (subst (λ (x : Answer). Answered x b) e k))
+      subst (λ (x : List ℕ). Restored bs (words g a l) (words t b x) H.Answer.done) (sym z) (restore-kept t b (subst (λ (x : Replayed). Answered x b) e k))

@@ -18,7 +18,7 @@ use Rattle.definition.proofs.Lengths.{record-bytes}
 use Rattle.driver.specs.Replies.{isHeld}
 use Rattle.lbfgsb.specs.Words.{Words, lengths, machineIn, logIn, Held, Holds}
 use Rattle.lbfgsb.specs.Did.{refusedBy, questionOf, questionAnswer, reportAnswer, repliesAnswer, entryIn, entryKept, shortLog, entryAnswer, recordIn, saveAnswer}
-use Rattle.lbfgsb.proofs.Entries.{entry-read}
+use Rattle.lookup.proofs.Entries.{entry-read}
 
 -- ---- tests, and what is held
 

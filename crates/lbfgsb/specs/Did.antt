@@ -1,13 +1,12 @@
 -- What each exported operation does: with any words at all, and with words that hold a history.
-use Prim.Native.Nat.{ℕ, zero, suc, _+_, _-_, _*_, _≤_}
+use Prim.Native.Nat.{ℕ, _+_, _-_, _≤_}
 use mathlib.Core.Path.{_≡_}
-use mathlib.Core.Bool.{Bool, true, false, cond}
+use mathlib.Core.Bool.{cond}
 use mathlib.Core.Logic.{_⊎_}
-use mathlib.Core.List.{List, [], _∷_, _++_}
+use mathlib.Core.List.{List, [], _++_}
 use mathlib.Core.Option.{Option, none, some}
-use lib.Dec.{eqb, ltb}
+use lib.Dec.{ltb}
 use lib.ListN.{length, take, drop, replicate}
-use lib.Ieee.{Float}
 use Rattle.definition.specs.Number.{zero64}
 use Rattle.definition.specs.Problem as P
 use Rattle.definition.specs.Problem.{Refusal, Check, refuse, when, _then_, validate}
@@ -15,13 +14,15 @@ use Rattle.definition.specs.Machine as M
 use Rattle.definition.specs.Machine.{checkDue}
 use Rattle.definition.specs.Driver.{answer}
 use Rattle.definition.specs.Replies.{Accepted}
-use Rattle.definition.specs.Log.{entryWords, entryOf}
-use Rattle.definition.specs.Record.{Lengths, Reading, checkArea, readRecord, plainRefusal, setupWords, trailer, bytes}
+use Rattle.definition.specs.Log.{entryWords}
+use Rattle.definition.specs.Record.{Reading, checkArea, readRecord, plainRefusal}
 use Rattle.definition.specs.History as H
 use Rattle.definition.specs.History.{Call, History, historyStep, historyAnswer, outputShort, restoredAnswer}
 use Rattle.driver.specs.Replies.{isHeld}
 use Rattle.replay.specs.Replays.{ReplayedTo, RefusedAt}
 use Rattle.lbfgsb.specs.Words.{Words, lengths, setupOf, machineIn, logIn, Held, Holds}
+pub use Rattle.lookup.specs.Reading.{wordsOfEntry, frontEntry, recordIn}
+unfoldable pub use Rattle.lookup.specs.Reading.{entryIn}
 
 -- ---- the history
 
@@ -142,20 +143,6 @@ reportAnswer w room =
 abbrev pub repliesAnswer : Words → H.Answer
 repliesAnswer w = cond (isHeld (w .state) (w .area)) (H.Answer.counted (w .state .entries)) (H.Answer.counted 0)
 
--- the words of the entry that begins a list of words; none where it is unknown or cut
-abbrev pub wordsOfEntry : Option M.Reply → List ℕ
-wordsOfEntry none = []
-wordsOfEntry (some r) = entryWords r
-
-abbrev pub frontEntry : ℕ → List ℕ → List ℕ
-frontEntry n [] = []
-frontEntry n (k ∷ ws) = wordsOfEntry (entryOf n k ws)
-
--- the words of entry k
-unfoldable pub entryIn : ℕ → ℕ → List ℕ → List ℕ
-entryIn n zero ws = frontEntry n ws
-entryIn n (suc k) ws = cond (eqb (length (frontEntry n ws)) 0) [] (entryIn n k (drop (length (frontEntry n ws)) ws))
-
 abbrev pub shortLog : Words → Check
 shortLog w = when (ltb (length (w .log)) (w .state .words)) (refuse 12 0 0)
 
@@ -167,10 +154,6 @@ entryAnswer w k room =
     cond (isHeld (w .state) (w .area))
     (refusedBy (shortLog w then outputShort room (length (entryKept w k))) (H.Answer.entered (entryKept w k)))
     (H.Answer.entered [])
-
--- the record of what the words hold
-abbrev pub recordIn : Words → List ℕ
-recordIn w = let ws = setupWords (setupOf w) ++ logIn w in bytes (ws ++ trailer ws)
 
 abbrev pub saveAnswer : Words → ℕ → H.Answer
 saveAnswer w room =

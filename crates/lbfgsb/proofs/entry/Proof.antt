@@ -2,8 +2,9 @@
 use mathlib.Core.Path.{sym, _∙_}
 use borrow.Author.Needs.{needs}
 use borrow.Author.Tests.{not-true, not-false}
-use Rattle.lbfgsb.proofs.Entries.{entry-room}
-use Rattle.lbfgsb.proofs.Reading.{facts, entry-unheld, entry-cut, entry-absent, entry-short, entry-put}
+use Rattle.lookup.proofs.Entries.{entry-room}
+use Rattle.lookup.proofs.Saving.{facts}
+use Rattle.lbfgsb.proofs.Reading.{entry-unheld, entry-cut, entry-absent, entry-short, entry-put}
 use Rattle.lbfgsb.proofs.entry.Statement.{statement}
 use Rattle.lbfgsb.proofs.entry.Tie as tie
 

@@ -2,7 +2,8 @@
 use mathlib.Core.Path.{sym, _∙_}
 use borrow.Author.Needs.{needs}
 use borrow.Author.Tests.{not-true, not-false}
-use Rattle.lbfgsb.proofs.Reading.{facts, question-unheld, question-ended, question-short, question-put}
+use Rattle.lookup.proofs.Saving.{facts}
+use Rattle.lbfgsb.proofs.Reading.{question-unheld, question-ended, question-short, question-put}
 use Rattle.lbfgsb.proofs.question.Statement.{statement}
 use Rattle.lbfgsb.proofs.question.Tie as tie
 

@@ -5,7 +5,8 @@ use borrow.Author.Tests.{not-true, not-false}
 use lib.ListN.{length}
 use Rattle.driver.proofs.Laws.{ready-facts, held-ready}
 use Rattle.lbfgsb.specs.Words.{words, replied}
-use Rattle.lbfgsb.proofs.Answers.{passed, refused, not-both, said-passed, reply-unheld, reply-refused, reply-advanced}
+use Rattle.accept.proofs.Checks.{passed, refused}
+use Rattle.lbfgsb.proofs.Answers.{said-passed, reply-unheld, reply-refused, reply-advanced}
 use Rattle.lbfgsb.proofs.reply.Statement.{statement}
 use Rattle.lbfgsb.proofs.reply.Tie as tie
 
@@ -22,16 +23,12 @@ check-reply-requires c κs =
     ready-facts (s .args .fit) (length (s .args .area .now)) (held-ready (s .args .fit) (s .args .area .now) (sym (c .before .is-held .ensures) ∙ not-false _ (c .if1 .left))) .ready .n
 
 returns-2 : tie.Need-returns-2
-returns-2 c = absurd (not-both (c .enum-told2 .given .1))
-
-returns-3 : tie.Need-returns-3
-returns-3 c =
-    let k = c .before .before .before .before in
-    let h = k .before .before .before in
+returns-2 c =
+    let h = c .before .before .before .before in
     let s = h .before .before .before .before .before .before in
     reply-refused (replied (s .args .said) (s .args .gradient .now)) (words (s .args .fit) (s .args .area .now) (s .args .log .now)) _
     (sym (h .before .is-held .ensures) ∙ not-false _ (h .if1 .left))
-    (refused (k .check .given .1 ∙ c .before .check2 .given .1) (k .before .before .check-reply .ensures (s .args .area .now) (s .args .gradient .now) refl))
+    (refused (c .before .check .given .1) (c .before .before .before .check-reply .ensures (s .args .area .now) (s .args .gradient .now) refl))
 
 log-entry-requires : tie.Need-log-entry-requires
 log-entry-requires c κs =
@@ -50,8 +47,8 @@ advanced-requires c κs =
           (passed (k .enum-told .given .1) (k .before .before .check-reply .ensures (s .args .area .now) (s .args .gradient .now) refl)) .0,
     )
 
-returns-4 : tie.Need-returns-4
-returns-4 c =
+returns-3 : tie.Need-returns-3
+returns-3 c =
     let k = c .before .before .before .before .before .before .before .before in
     let h = k .before .before .before in
     let s = h .before .before .before .before .before .before in
@@ -72,14 +69,10 @@ reply-spec =
     check-reply-requires
     (λ c. search needs)
     (λ c. search needs)
-    (λ c. search needs)
-    (λ c. search needs)
-    (λ c. search needs)
-    returns-2
-    (λ c. search needs)
-    returns-3
     log-entry-requires
     advanced-requires
     (λ c. search needs)
+    returns-2
     (λ c. search needs)
-    returns-4)
+    (λ c. search needs)
+    returns-3)

@@ -2,7 +2,8 @@
 use mathlib.Core.Path.{sym, _∙_}
 use borrow.Author.Needs.{needs}
 use borrow.Author.Tests.{not-true, not-false}
-use Rattle.lbfgsb.proofs.Reading.{facts, report-unheld, report-none, report-short, report-put}
+use Rattle.lookup.proofs.Saving.{facts}
+use Rattle.lbfgsb.proofs.Reading.{report-unheld, report-none, report-short, report-put}
 use Rattle.lbfgsb.proofs.report.Statement.{statement}
 use Rattle.lbfgsb.proofs.report.Tie as tie
 

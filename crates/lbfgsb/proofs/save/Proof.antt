@@ -3,7 +3,8 @@ use mathlib.Core.Path.{sym, _∙_}
 use native.Mathlib.Omega.{arith}
 use borrow.Author.Needs.{needs}
 use borrow.Author.Tests.{not-true, not-false}
-use Rattle.lbfgsb.proofs.Reading.{facts, setup-few, held-stands, save-unheld, save-cut, save-short, save-put}
+use Rattle.lookup.proofs.Saving.{facts, setup-few, held-stands}
+use Rattle.lbfgsb.proofs.Reading.{save-unheld, save-cut, save-short, save-put}
 use Rattle.lbfgsb.proofs.save.Statement.{statement}
 use Rattle.lbfgsb.proofs.save.Tie as tie
 

@@ -1,25 +1,22 @@
 -- `lbfgsb::start` meets its contract: refused by a check, or the fit is opened and marked. Assumes nothing.
-use mathlib.Core.Path.{_≡_, _∙_}
+use mathlib.Core.Path.{_≡_}
 use borrow.Author.Needs.{needs}
 use lib.ListN.{length}
 use Rattle.problem.specs.Setups.{setupIn}
 use Rattle.driver.proofs.Laws.{ready-facts}
 use Rattle.lbfgsb.specs.Words.{words}
-use Rattle.lbfgsb.proofs.Laws.{reached-ready}
-use Rattle.lbfgsb.proofs.Answers.{passed, refused, not-both, start-refused, start-room, start-reached, start-opened}
+use Rattle.held.proofs.Laws.{reached-ready}
+use Rattle.accept.proofs.Checks.{passed, refused}
+use Rattle.lbfgsb.proofs.Answers.{start-refused, start-room, start-reached, start-opened}
 use Rattle.lbfgsb.proofs.start.Statement.{statement}
 use Rattle.lbfgsb.proofs.start.Tie as tie
 
 returns : tie.Need-returns
-returns c = absurd (not-both (c .enum-told2 .given .1))
-
-returns-2 : tie.Need-returns-2
-returns-2 c =
+returns c =
     λ l.
-    let k = c .before .before .before .before in
-    let a = k .before .before .before .before .before .before .before .args in
+    let a = c .before .before .before .before .before .before .before .before .args in
     let s = setupIn (a .o) (a .x0 .now) (a .lower .now) (a .upper .now) in
-    start-refused s (words (a .fit) (a .area .now) l) _ (refused (k .check .given .1 ∙ c .before .check2 .given .1) (k .before .before .check-start .ensures (length l)))
+    start-refused s (words (a .fit) (a .area .now) l) _ (refused (c .before .check .given .1) (c .before .before .before .check-start .ensures (length l)))
 
 begin-requires : tie.Need-begin-requires
 begin-requires c κs =
@@ -42,8 +39,8 @@ mark-requires c κs =
     let h = start-reached s _ _ 0 (a .area .now) (b .begin .last .1 .0) (b .begin .result) p (begin-length b) (b .begin .ensures) in
     ready-facts (b .begin .result) (length (b .begin .last .1 .0)) (reached-ready h) .shape
 
-returns-3 : tie.Need-returns-3
-returns-3 c =
+returns-2 : tie.Need-returns-2
+returns-2 c =
     λ l.
     let b = c .before .before .before .before .before .before .before in
     let k = b .before .before in
@@ -60,11 +57,8 @@ start-spec =
     (λ c κs. search needs)
     (λ c. search needs)
     (λ c. search needs)
-    (λ c. search needs)
-    (λ c. search needs)
-    returns
-    returns-2
     begin-requires
     mark-requires
+    returns
     (λ c. search needs)
-    returns-3)
+    returns-2)

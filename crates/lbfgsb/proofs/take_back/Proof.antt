@@ -40,10 +40,10 @@ replay-log-requires c κs =
 
 returns-5 : tie.Need-returns-5
 returns-5 c =
-    let a = c .before .before .before .before .before .before .before .before .before .before .before .before .before .before .before .before .before .args in
-    let r = c .before .before .before .before .replay-log in
-    let held = sym (c .before .before .before .before .before .before .before .before .before .before .before .before .before .is-held .ensures) ∙ not-false _ (c .before .before .before .before .before .before .before .before .before .before .before .before .if1 .left) in
-    answered-zeroed (a .fit) (a .area .now) (a .log .now) (a .j) held (c .before .before .before .before .before .before .before .before .before .before .if3 .left) (c .before .before .before .before .before .before .before .before .if4 .left) (r .result) _ (c .enum-told .given .1) (r .last .1 .0) (r .ensures)
+    let a = c .before .before .before .before .before .before .before .before .before .before .before .before .before .before .before .before .before .before .before .args in
+    let r = c .before .before .before .before .before .before .replay-log in
+    let held = sym (c .before .before .before .before .before .before .before .before .before .before .before .before .before .before .before .is-held .ensures) ∙ not-false _ (c .before .before .before .before .before .before .before .before .before .before .before .before .before .before .if1 .left) in
+    answered-zeroed (a .fit) (a .area .now) (a .log .now) (a .j) held (c .before .before .before .before .before .before .before .before .before .before .before .before .if3 .left) (c .before .before .before .before .before .before .before .before .before .before .if4 .left) (r .result) _ _ (c .before .before .built .given .1) (c .refusal4 .ensures) (r .last .1 .0) (r .ensures)
 
 zero-log-requires : tie.Need-zero-log-requires
 zero-log-requires c κs =
@@ -51,7 +51,7 @@ zero-log-requires c κs =
     let r = c .before .before .before .before .before .before .replay-log in
     let held = sym (c .before .before .before .before .before .before .before .before .before .before .before .before .before .before .before .is-held .ensures) ∙ not-false _ (c .before .before .before .before .before .before .before .before .before .before .before .before .before .before .if1 .left) in
     let room = c .before .before .before .before .before .before .before .before .before .before .if4 .left in
-    let fewer = answered-fewer (a .fit) (a .area .now) (a .log .now) (a .j) held (c .before .before .before .before .before .before .before .before .before .before .before .before .if3 .left) room (r .result) _ (c .before .before .answer .given .1) (r .last .1 .0) (r .ensures) in
+    let fewer = answered-fewer (a .fit) (a .area .now) (a .log .now) (a .j) held (c .before .before .before .before .before .before .before .before .before .before .before .before .if3 .left) room (r .result) _ (c .before .before .built2 .given .1) (r .last .1 .0) (r .ensures) in
     (omega (arith, fewer), omega (arith, room))
 
 returns-6 : tie.Need-returns-6
@@ -60,7 +60,7 @@ returns-6 c =
     let r = c .before .before .before .before .before .before .before .before .before .replay-log in
     let z = c .before .before .zero-log in
     let held = sym (c .before .before .before .before .before .before .before .before .before .before .before .before .before .before .before .before .before .before .is-held .ensures) ∙ not-false _ (c .before .before .before .before .before .before .before .before .before .before .before .before .before .before .before .before .before .if1 .left) in
-    answered-back (a .fit) (a .area .now) (a .log .now) (a .j) held (c .before .before .before .before .before .before .before .before .before .before .before .before .before .before .before .if3 .left) (c .before .before .before .before .before .before .before .before .before .before .before .before .before .if4 .left) (r .result) _ (c .before .before .before .before .before .answer .given .1) (r .last .1 .0) (r .ensures) (z .last .0) (z .ensures)
+    answered-back (a .fit) (a .area .now) (a .log .now) (a .j) held (c .before .before .before .before .before .before .before .before .before .before .before .before .before .before .before .if3 .left) (c .before .before .before .before .before .before .before .before .before .before .before .before .before .if4 .left) (r .result) _ (c .before .before .before .before .before .built2 .given .1) (r .last .1 .0) (r .ensures) (z .last .0) (z .ensures)
 
 pub take-back-spec : {M : Type 1} → statement M
 take-back-spec =
@@ -80,11 +80,12 @@ take-back-spec =
     returns-4
     replay-log-requires
     (λ c. search needs)
+    (λ c κs. search needs)
     (λ c. search needs)
+    zero-log-requires
     (λ c. search needs)
     (λ c. search needs)
     returns-5
-    zero-log-requires
     (λ c. search needs)
     (λ c. search needs)
     returns-6)

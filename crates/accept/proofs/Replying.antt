@@ -1,0 +1,197 @@
+-- Laws of a reply's parts: its checks, its words in the area, and the fit that it advances. Assumes nothing.
+use Prim.Native.Nat.{ℕ, _+_, _≤_, _<_}
+use native.Mathlib.Omega.{arith}
+use mathlib.Core.Path.{_≡_, refl, sym, ap, _∙_}
+use mathlib.Core.Bool.{Bool, true, false, not, false≢true}
+use mathlib.Core.List.{List, map}
+use mathlib.Core.Option.{none}
+use borrow.Author.Tests.{lt-ltb, le-ltb, eq-eqb, ne-eqb, eqb-true, not-false}
+use lib.Dec.{eqb, ltb}
+use lib.ListN.{length, take, drop}
+use lib.Seq.{take-length}
+use lib.Ieee.{Float}
+use Rattle.definition.specs.Number.{toFloat}
+use Rattle.definition.specs.Problem.{Check, Terms, refuse, when, _then_}
+use Rattle.definition.specs.Machine as M
+use Rattle.definition.specs.Machine.{Machine, kindOf, suits, takes, checkLength, checkDue}
+use Rattle.definition.specs.Driver.{answer, answerIn, withGradient, onGradient}
+use Rattle.definition.specs.Log.{entryWords}
+use Rattle.definition.proofs.Accepted.{both-passed, test-failed, due-taken}
+use Rattle.area.specs.Area.{Vecs, view, upd, X0, TrialGradient}
+use Rattle.compact.specs.State.{Sound}
+use Rattle.fit.specs.State.{machine, machineOf, phaseOf, Steps}
+use Rattle.fit.specs.declared.Fit.{Fit}
+use Rattle.fit.proofs.Laws.{put}
+use Rattle.problem.specs.declared.Options.{Options}
+use Rattle.opening.specs.Opened.{setupAt}
+use Rattle.record.specs.Records.{entrySize}
+use Rattle.replay.specs.Replays.{withLog}
+use Rattle.driver.specs.Replies.{replyOf, suppliedIn, advanced, Marks, mostWords}
+use Rattle.driver.specs.declared.Reply.{Reply}
+use Rattle.driver.specs.declared.Reply.the-variants as R
+use Rattle.driver.proofs.Laws.{marked-machine}
+use Rattle.replay.specs.Taken.{replied}
+use Rattle.replay.proofs.Entries.{suits-replied}
+use Rattle.replay.proofs.Answers.{terms-stay}
+use Rattle.question.specs.Reports.{Within}
+use Rattle.accept.specs.Moves.{entryKind, stored, checkSaid, Advances}
+use Rattle.held.proofs.Laws.{setup-same, marked-setup}
+
+-- ---- 14: the length of a gradient
+
+pub no-length : (n : ℕ) (r : Reply) (ws : List ℕ) → (entryKind r ≡ 2 → ⊥) → none ≡ checkLength n (replied r ws)
+no-length n (R.Value v) ws h = refl
+no-length n R.Gradient ws h = absurd (h refl)
+no-length n R.NotSupplied ws h = refl
+no-length n R.GoOn ws h = refl
+no-length n R.Stop ws h = refl
+no-length n R.Failure ws h = refl
+
+pub wrong-length : (n : ℕ) (r : Reply) (ws : List ℕ) → entryKind r ≡ 2 → (length ws ≡ n → ⊥) → refuse 14 n (length ws) ≡ checkLength n (replied r ws)
+wrong-length n (R.Value v) ws e h = absurd (omega arith)
+wrong-length n R.Gradient ws e h = rw (ne-eqb (length ws) n h) refl
+wrong-length n R.NotSupplied ws e h = absurd (omega arith)
+wrong-length n R.GoOn ws e h = absurd (omega arith)
+wrong-length n R.Stop ws e h = absurd (omega arith)
+wrong-length n R.Failure ws e h = absurd (omega arith)
+
+pub right-length : (n : ℕ) (r : Reply) (ws : List ℕ) → entryKind r ≡ 2 → length ws ≡ n → none ≡ checkLength n (replied r ws)
+right-length n (R.Value v) ws e h = refl
+right-length n R.Gradient ws e h = rw (eq-eqb (length ws) n h) refl
+right-length n R.NotSupplied ws e h = refl
+right-length n R.GoOn ws e h = refl
+right-length n R.Stop ws e h = refl
+right-length n R.Failure ws e h = refl
+
+-- a gradient whose length passed has n words
+pub length-passed : (n : ℕ) (r : Reply) (ws : List ℕ) → checkLength n (replied r ws) ≡ none → entryKind r ≡ 2 → length ws ≡ n
+length-passed n (R.Value v) ws e k = absurd (omega arith)
+length-passed n R.Gradient ws e k = eqb-true (length ws) n (not-false (eqb (length ws) n) (test-failed (not (eqb (length ws) n)) _ e))
+length-passed n R.NotSupplied ws e k = absurd (omega arith)
+length-passed n R.GoOn ws e k = absurd (omega arith)
+length-passed n R.Stop ws e k = absurd (omega arith)
+length-passed n R.Failure ws e k = absurd (omega arith)
+
+pub due-long : (t : Fit) (a : List Float) (r : Reply) (ws : List ℕ) → checkDue (machineOf t a) (replied r ws) ≡ none → entryKind r ≡ 2 → length ws ≡ t .shape .n
+due-long t a r ws e = length-passed (t .shape .n) r ws (both-passed (when (not (takes (machineOf t a) (replied r ws))) (refuse 13 0 0)) (checkLength (t .shape .n) (replied r ws)) e .1)
+
+-- ---- the size of an entry
+
+pub entry-size : (n : ℕ) (r : Reply) (ws : List ℕ) → (entryKind r ≡ 2 → length ws ≡ n) → entrySize (entryKind r) n ≡ length (entryWords (replied r ws))
+entry-size n (R.Value v) ws h = refl
+entry-size n R.Gradient ws h = let e = h refl in omega arith
+entry-size n R.NotSupplied ws h = refl
+entry-size n R.GoOn ws h = refl
+entry-size n R.Stop ws h = refl
+entry-size n R.Failure ws h = refl
+
+pub entry-few : (n : ℕ) (r : Reply) → n ≤ 64 → entrySize (entryKind r) n < mostWords
+entry-few n (R.Value v) h = omega arith
+entry-few n R.Gradient h = omega arith
+entry-few n R.NotSupplied h = omega arith
+entry-few n R.GoOn h = omega arith
+entry-few n R.Stop h = omega arith
+entry-few n R.Failure h = omega arith
+
+-- ---- 12: room in the log
+
+pub no-room : {k : Check} (room words length : ℕ) → k ≡ refuse 12 0 0 → room < words + length → k ≡ when (ltb room (words + length)) (refuse 12 0 0)
+no-room room words length e h = e ∙ rw (lt-ltb room (words + length) h) refl
+
+pub some-room : (room words length : ℕ) → words + length ≤ room → none ≡ when (ltb room (words + length)) (refuse 12 0 0)
+some-room room words length h = rw (le-ltb room (words + length) h) refl
+
+-- ---- the whole check
+
+-- whether the reply suits, as the code asks it
+pub suits-said : {b : Bool} {k : ℕ} (t : Fit) (a : List Float) (r : Reply) (ws : List ℕ) → k ≡ kindOf (phaseOf (t .phase)) → ((m : Machine) → b ≡ suits k (replyOf r m))
+    → takes (machineOf t a) (replied r ws) ≡ b
+suits-said t a r ws e h = sym (h (machineOf t a) ∙ suits-replied _ r (machineOf t a) ws ∙ ap (λ (k : ℕ). suits k (replied r ws)) e)
+
+pub said-undue : {k : Check} (t : Fit) (a : List Float) (room : ℕ) (q : M.Reply) → k ≡ refuse 13 0 0 → takes (machineOf t a) q ≡ false → k ≡ checkSaid t a room q
+said-undue t a room q e h = e ∙ rw h refl
+
+pub said-due : (t : Fit) (a : List Float) (room : ℕ) (q : M.Reply) → takes (machineOf t a) q ≡ true
+    → (checkLength (t .shape .n) q then when (ltb room (t .words + length (entryWords q))) (refuse 12 0 0)) ≡ checkSaid t a room q
+said-due t a room q h = rw h refl
+
+-- ---- a gradient's words in the area
+
+pub not-stored : (r : Reply) (ws : List ℕ) (v : Vecs) → (entryKind r ≡ 2 → ⊥) → v ≡ stored r ws v
+not-stored (R.Value w) ws v h = refl
+not-stored R.Gradient ws v h = absurd (h refl)
+not-stored R.NotSupplied ws v h = refl
+not-stored R.GoOn ws v h = refl
+not-stored R.Stop ws v h = refl
+not-stored R.Failure ws v h = refl
+
+pub is-stored : (n : ℕ) (r : Reply) (ws : List ℕ) (v w : Vecs) → entryKind r ≡ 2 → length ws ≡ n → w ≡ upd v TrialGradient (map toFloat (take n (drop 0 ws)))
+    → w ≡ stored r ws v
+is-stored n (R.Value x) ws v w e h k = absurd (omega arith)
+is-stored n R.Gradient ws v w e h k =
+    let q : take n ws ≡ ws = ap (λ (i : ℕ). take i ws) (sym h) ∙ take-length ws in
+    k ∙ ap (λ (us : List ℕ). upd v TrialGradient (map toFloat us)) q
+is-stored n R.NotSupplied ws v w e h k = absurd (omega arith)
+is-stored n R.GoOn ws v w e h k = absurd (omega arith)
+is-stored n R.Stop ws v w e h k = absurd (omega arith)
+is-stored n R.Failure ws v w e h k = absurd (omega arith)
+
+-- the start and the bounds stay
+pub stored-low : (r : Reply) (ws : List ℕ) (v : Vecs) → stored r ws v X0 ≡ v X0
+stored-low (R.Value w) ws v = refl
+stored-low R.Gradient ws v = refl
+stored-low R.NotSupplied ws v = refl
+stored-low R.GoOn ws v = refl
+stored-low R.Stop ws v = refl
+stored-low R.Failure ws v = refl
+
+-- ---- the fit advanced
+
+-- a gradient whose floats stand in the machine already
+gradient-answer : (p : M.Phase) (m : Machine) (ws : List ℕ) → suits (kindOf p) (M.Reply.gradient ws) ≡ true
+    → suppliedIn p (withGradient (map toFloat ws) m) ≡ answerIn p m (M.Reply.gradient ws)
+unfolding onGradient
+gradient-answer (M.Phase.value w) m ws e = absurd (false≢true e)
+gradient-answer (M.Phase.gradient w) m ws e = refl
+gradient-answer (M.Phase.probe w i side) m ws e = absurd (false≢true e)
+gradient-answer M.Phase.notice m ws e = absurd (false≢true e)
+gradient-answer (M.Phase.ended t) m ws e = absurd (false≢true e)
+
+said-answer : (t : Fit) (v : Vecs) (r : Reply) (ws : List ℕ) → takes (machine t v) (replied r ws) ≡ true
+    → advanced r (machine t (stored r ws v)) ≡ answer (machine t v) (replied r ws)
+said-answer t v (R.Value w) ws h = refl
+said-answer t v R.Gradient ws h =
+    ap (advanced R.Gradient) (put t v TrialGradient (map toFloat ws) (omega arith)) ∙ gradient-answer (phaseOf (t .phase)) (machine t v) ws h
+said-answer t v R.NotSupplied ws h = refl
+said-answer t v R.GoOn ws h = refl
+said-answer t v R.Stop ws h = refl
+said-answer t v R.Failure ws h = refl
+
+-- t with the area a, the reply's words stored (b), advanced (f with d), marked (e) and counted
+pub advances : (t : Fit) (a b : List Float) (r : Reply) (ws : List ℕ) (f : Fit) (d e : List Float) (k : ℕ)
+    → Sound (t .shape) (length a) → Within (t .phase) (t .shape .n) → checkDue (machineOf t a) (replied r ws) ≡ none → view b (t .shape .n) ≡ stored r ws (view a (t .shape .n))
+    → Steps (advanced r) t b f d → length d ≡ length a → Marks (f .shape) d e → k ≡ length (entryWords (replied r ws))
+    → Advances (replied r ws) t a (withLog (f .entries + 1) (f .words + k) f) e
+advances t a b r ws f d e k s i c g h z m l =
+    let q = replied r ws in
+    let takes-it = due-taken (machineOf t a) q c in
+    let sound = h .sound (length a) s in
+    let is : machineOf f d ≡ answer (machineOf t a) q =
+    h .is ∙ ap (λ (v : Vecs). advanced r (machine t v)) g ∙ said-answer t (view a (t .shape .n)) r ws takes-it in
+    let terms : machineOf f d .terms ≡ machineOf t a .terms = ap (λ (m : Machine). m .terms) is ∙ terms-stay t (view a (t .shape .n)) q i takes-it in
+    let x0 : view d (f .shape .n) X0 ≡ view a (t .shape .n) X0 =
+    ap (λ (n : ℕ). view d n X0) (h .n) ∙ h .x0 ∙ ap (λ (v : Vecs). v X0) g ∙ stored-low r ws (view a (t .shape .n)) in
+    record {
+      n = h .n;
+      m = h .m;
+      sound = sound;
+      settled = h .kept .settled;
+      setup =
+          marked-setup (f .options) f d e m
+          ∙ setup-same (f .options) (view a (t .shape .n)) (view d (f .shape .n)) x0 (ap (λ (k : Terms). k .bounds .lower) terms) (ap (λ (k : Terms). k .bounds .upper) terms)
+          ∙ ap (λ (o : Options). setupAt o (view a (t .shape .n))) (h .kept .options);
+      mark = m .mark;
+      is = marked-machine f d e (rw z sound) m ∙ is;
+      entries = ap (λ (i : ℕ). i + 1) (h .kept .entries);
+      words = λ i. h .kept .words i + l i;
+    }

@@ -1,0 +1,161 @@
+// What a start and a reply are checked for, the entry of a reply in the log, and the fit that it advances.
+ghost use mathlib.Core.Path.{_≡_};
+ghost use mathlib.Core.Bool.{true};
+ghost use mathlib.Core.List.{List};
+ghost use mathlib.Core.Option.{none};
+ghost use Prim.Native.Nat.{ℕ, _+_, _-_, _*_, _≤_};
+ghost use lib.Dec.{ltb};
+ghost use lib.Ieee.{Float};
+ghost use lib.ListN.{length};
+ghost use Rattle.definition.specs.Problem.{refuse, when, _then_, validate, areaWords};
+ghost use Rattle.definition.specs.Machine.{checkLength, checkDue};
+ghost use Rattle.definition.specs.Log.{entryWords};
+ghost use Rattle.definition.specs.Record.{checkArea};
+ghost use Rattle.area.specs.Area.{view};
+ghost use Rattle.problem.specs.Setups.{setupIn, placesIn, checkOf};
+ghost use Rattle.fit.specs.State.{machineOf};
+ghost use Rattle.driver.specs.Replies.{isReady};
+ghost use Rattle.accept.specs.Moves.{entryKind, written, stored, checkSaid, Advances};
+ghost use Rattle.replay.specs.Taken.{replied};
+use driver::Reply;
+use fit::Fit;
+use problem::Checked;
+use problem::Options;
+
+// ---- start
+
+// The area is too short for the setup.
+fn check_area(o: Options, n: usize, size: usize) -> Checked
+    requires { ⌜ (n ≤ 64) × (placesIn o ≤ 16) ⌝ }
+    ensures { λ r. ⌜ (let k = areaWords n (placesIn o) in checkOf r ≡ when (ltb size k) (refuse 11 k 0)) ⌝ }
+{
+    let needed = area::words(n, problem::places(o));
+    if size < needed {
+        return problem::refused(11, needed, 0);
+    }
+    Checked::Passed
+}
+
+// What is wrong with a setup, and then with the area.
+pub fn check_start(o: Options, x0: &[f64], lower: &[f64], upper: &[f64], size: usize) -> Checked
+    ensures { λ r. ⌜ (let s = setupIn o (now (x0 .entry)) (now (lower .entry)) (now (upper .entry)) in (l : ℕ) → checkOf r ≡ (validate s then checkArea (record { area = size; log = l }) s)) ⌝ }
+{
+    let rows = problem::validate(o, x0, lower, upper);
+    let Checked::Passed = rows else {
+        return rows;
+    };
+    check_area(o, x0.len(), size)
+}
+
+// ---- reply
+
+// The kind of a reply: the first word of its entry in the log.
+fn kind_of(r: Reply) -> u64
+    ensures { λ k. ⌜ k ≡ entryKind r ⌝ }
+{
+    match r {
+        Reply::Value(_) => 1,
+        Reply::Gradient => 2,
+        Reply::NotSupplied => 3,
+        Reply::GoOn => 4,
+        Reply::Stop => 5,
+        Reply::Failure => 6,
+    }
+}
+
+// 14 for a gradient that is not of n words.
+fn check_length(r: Reply, gradient: usize, n: usize) -> Checked
+    ensures { λ c. ⌜ ((ws : List ℕ) → length ws ≡ gradient → checkOf c ≡ checkLength n (replied r ws)) ⌝ }
+{
+    if kind_of(r) != 2 {
+        return Checked::Passed;
+    }
+    if gradient != n {
+        return problem::refused(14, n, gradient);
+    }
+    Checked::Passed
+}
+
+// 12 where a log of `room` words has `words` of them, and none for `length` more.
+fn check_room(words: usize, length: usize, room: usize) -> Checked
+    ensures { λ c. ⌜ checkOf c ≡ when (ltb room (words + length)) (refuse 12 0 0) ⌝ }
+{
+    if room < words {
+        return problem::refused(12, 0, 0);
+    }
+    if room - words < length {
+        return problem::refused(12, 0, 0);
+    }
+    Checked::Passed
+}
+
+// 13, 14 and 12 for a reply with the gradient's words beside it.
+pub fn check_reply(t: Fit, r: Reply, gradient: usize, room: usize) -> Checked
+    requires { ⌜ t .shape .n ≤ 64 ⌝ }
+    ensures { λ c. ⌜ ((a : List Float) (ws : List ℕ) → length ws ≡ gradient → checkOf c ≡ checkSaid t a room (replied r ws)) ⌝ }
+{
+    let p = t.phase;
+    if !driver::suits(question::kind_of(p), r) {
+        return problem::refused(13, 0, 0);
+    }
+    let n = t.shape.n;
+    let due = check_length(r, gradient, n);
+    let Checked::Passed = due else {
+        return due;
+    };
+    check_room(t.words, record::entry_length(kind_of(r), n), room)
+}
+
+// The words of a gradient into the log.
+fn log_gradient(log: &mut [u64], at: usize, words: &[u64])
+    requires { ⌜ at + length (now words) ≤ length (now log) ⌝ }
+    ensures { λ _. ⌜ now (log .exit) ≡ written at (now (words .entry)) (now (log .entry)) ⌝ }
+{
+    let mut i = 0;
+    while i < words.len() {
+        log[at + i] = words[i];
+        i += 1;
+    }
+}
+
+// The entry of a reply into the log.
+pub fn log_entry(log: &mut [u64], at: usize, r: Reply, gradient: &[u64])
+    requires { ⌜ at + length (entryWords (replied r (now gradient))) ≤ length (now log) ⌝ }
+    ensures { λ _. ⌜ now (log .exit) ≡ written at (entryWords (replied r (now (gradient .entry)))) (now (log .entry)) ⌝ }
+{
+    log[at] = kind_of(r);
+    match r {
+        Reply::Value(v) => {
+            log[at + 1] = v;
+        }
+        Reply::Gradient => log_gradient(log, at + 1, gradient),
+        Reply::NotSupplied => {}
+        Reply::GoOn => {}
+        Reply::Stop => {}
+        Reply::Failure => {}
+    }
+}
+
+// The words of a gradient into the area, as the trial's gradient; no other reply brings any.
+fn put_gradient(area: &mut [f64], n: usize, r: Reply, gradient: &[u64])
+    requires { ⌜ (16 * n ≤ length (now area)) × (entryKind r ≡ 2 → length (now gradient) ≡ n) ⌝ }
+    ensures { λ _. ⌜ view (now (area .exit)) n ≡ stored r (now (gradient .entry)) (view (now (area .entry)) n) ⌝ }
+{
+    if kind_of(r) != 2 {
+        return;
+    }
+    replay::store_words(area, n, gradient, 0);
+}
+
+// The fit advanced by a reply that is due.
+pub fn advanced(t: Fit, area: &mut [f64], r: Reply, gradient: &[u64]) -> Fit
+    requires { ⌜ (isReady t (length (now area)) ≡ true) × (checkDue (machineOf t (now area)) (replied r (now gradient)) ≡ none) ⌝ }
+    ensures { λ f. ⌜ Advances (replied r (now (gradient .entry))) t (now (area .entry)) f (now (area .exit)) ⌝ }
+{
+    let n = t.shape.n;
+    put_gradient(area, n, r, gradient);
+    let f = driver::advance(t, area, r);
+    let h = f.shape;
+    driver::mark(area, h);
+    replay::counted(f, record::entry_length(kind_of(r), n))
+}

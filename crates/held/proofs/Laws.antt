@@ -1,0 +1,124 @@
+-- Laws of what words hold: a fit that a setup and replies reach, and marked. Assumes nothing.
+use Prim.Native.Nat.{ℕ, _≤_}
+use native.Mathlib.Omega.{arith}
+use mathlib.Core.Path.{_≡_, ap, _∙_}
+use mathlib.Core.Bool.{true}
+use mathlib.Core.List.{List, []}
+use lib.ListN.{length, take}
+use lib.Ieee.{Float}
+use Rattle.definition.specs.Problem.{Setup, Terms, areaWords, areaNeeded, termsOf}
+use Rattle.definition.specs.Machine as M
+use Rattle.definition.specs.Machine.{Machine}
+use Rattle.definition.specs.Driver.{run}
+use Rattle.definition.specs.Log.{logWords}
+use Rattle.definition.specs.Replies.{Accepted, Due}
+use Rattle.definition.proofs.Counts.{terms-stay}
+use Rattle.area.specs.Area.{Vecs, view, X0, Lower, Upper}
+use Rattle.compact.specs.State.{Sound}
+use Rattle.search.specs.State.{Settled}
+use Rattle.problem.specs.declared.Options.{Options}
+use Rattle.fit.specs.State.{machineOf}
+use Rattle.fit.specs.declared.Fit.{Fit}
+use Rattle.opening.specs.Opened.{setupAt, Opened}
+use Rattle.driver.specs.Replies.{marked, isReady, Marks}
+use Rattle.driver.proofs.Laws.{ready-facts, held-ready, is-held, marked-machine, run-ready}
+use Rattle.driver.specs.declared.Reply.{Reply}
+use Rattle.held.specs.Words.{words, Held}
+
+-- ---- the setup that state and area hold
+
+-- options and the three vectors make it
+pub setup-same : (o : Options) (v w : Vecs) → w X0 ≡ v X0 → w Lower ≡ v Lower → w Upper ≡ v Upper → setupAt o w ≡ setupAt o v
+setup-same o v w x l u = rw (x, l, u)
+
+-- the mark touches none of it
+pub marked-setup : (o : Options) (t : Fit) (a b : List Float) → Marks (t .shape) a b → setupAt o (view b (t .shape .n)) ≡ setupAt o (view a (t .shape .n))
+marked-setup o t a b h =
+    setup-same o (view a (t .shape .n)) (view b (t .shape .n)) (h .kept X0 (omega arith)) (h .kept Lower (omega arith)) (h .kept Upper (omega arith))
+
+-- ---- a fit that replies reach
+
+-- t with the area a is the fit of the setup s after the replies rs
+pub record Reached (t : Fit) (a : List Float) (s : Setup) (rs : List M.Reply) : Type 0 where
+  pub accepted : Accepted s
+  pub due : Due s rs
+  pub setup : setupAt (t .options) (view a (t .shape .n)) ≡ s
+  pub is : machineOf t a ≡ run s rs
+  pub sound : Sound (t .shape) (length a)
+  pub area : areaNeeded s ≤ length a
+  pub settled : Settled (t .search) (t .trials)
+  pub entries : t .entries ≡ length rs
+  pub words : t .words ≡ length (logWords rs)
+
+-- it passes the test ahead of the mark
+pub reached-ready : {t : Fit} {a : List Float} {s : Setup} {rs : List M.Reply} → Reached t a s rs → isReady t (length a) ≡ true
+reached-ready {t} {a} {s} {rs} h =
+    run-ready t (length a) a s rs (h .accepted) (h .due) (h .is) (h .setup) (h .sound) (h .area) (h .entries) (h .words)
+
+-- the mark keeps it
+pub reached-marked : {t : Fit} {a b : List Float} {s : Setup} {rs : List M.Reply} → Reached t a s rs → Marks (t .shape) a b → Reached t b s rs
+reached-marked {t} {a} {b} h k = record {
+  accepted = h .accepted;
+  due = h .due;
+  setup = marked-setup (t .options) t a b k ∙ h .setup;
+  is = marked-machine t a b (h .sound) k ∙ h .is;
+  sound = rw (k .size) (h .sound);
+  area = rw (k .size) (h .area);
+  settled = h .settled;
+  entries = h .entries;
+  words = h .words;
+}
+
+-- marked, and with its words in the log, it is held
+pub reached-held : {t : Fit} {a : List Float} {l : List ℕ} {s : Setup} {rs : List M.Reply}
+    → Reached t a s rs → marked (t .shape) a ≡ true → t .words ≤ length l → take (t .words) l ≡ logWords rs → Held (words t a l) s rs
+reached-held {t} {a} h k r e = record {
+  accepted = h .accepted;
+  due = h .due;
+  test = is-held t a (reached-ready h) k;
+  setup = h .setup;
+  is = h .is;
+  settled = h .settled;
+  entries = h .entries;
+  words = h .words;
+  room = r;
+  log = e;
+}
+
+-- the terms after any replies are the setup's
+terms-of : (t : Fit) (a : List Float) (s : Setup) (rs : List M.Reply) → Due s rs → machineOf t a ≡ run s rs → machineOf t a .terms ≡ termsOf s
+terms-of t a s rs d e = ap (λ (m : Machine). m .terms) e ∙ terms-stay s rs d
+
+needed-is : (t : Fit) (a : List Float) (s : Setup) (rs : List M.Reply) → Due s rs → machineOf t a ≡ run s rs → areaWords (t .shape .n) (t .shape .m) ≡ areaNeeded s
+needed-is t a s rs d e = ap (λ (k : Terms). areaWords (k .n) (k .maxcor)) (terms-of t a s rs d e)
+
+-- what is held was reached
+pub held-reached : {t : Fit} {a : List Float} {l : List ℕ} {s : Setup} {rs : List M.Reply} → Held (words t a l) s rs → Reached t a s rs
+held-reached {t} {a} {s = s} {rs = rs} h =
+    let f = ready-facts t (length a) (held-ready t a (h .test)) in
+    record {
+      accepted = h .accepted;
+      due = h .due;
+      setup = h .setup;
+      is = h .is;
+      sound = f .ready .sound;
+      area = rw (← needed-is t a s rs (h .due) (h .is)) (f .area);
+      settled = h .settled;
+      entries = h .entries;
+      words = h .words;
+    }
+
+-- a setup just opened is reached by no replies
+pub opened-reached : {t : Fit} {a : List Float} {o : Options} {n : ℕ} {s : Setup} → Accepted s → areaNeeded s ≤ length a → Opened o n s (length a) t a → Reached t a s []
+unfolding run logWords
+opened-reached c z h = record {
+  accepted = c;
+  due = tt;
+  setup = rw (h .options, h .n) (h .setup);
+  is = h .is;
+  sound = h .sound;
+  area = z;
+  settled = h .settled;
+  entries = h .entries;
+  words = h .words;
+}

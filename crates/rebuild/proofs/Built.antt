@@ -1,0 +1,178 @@
+-- Laws of a fit built anew: the opening of a setup can be replayed into, and what a replay leaves, marked or zeroed, is the fit of setup and entries.
+-- Assumes nothing.
+use Prim.Native.Nat.{ℕ, _+_, _-_, _*_, _≤_, _<_}
+use native.Mathlib.Omega.{arith}
+use mathlib.Core.Path.{_≡_, sym, ap, _∙_, subst}
+use mathlib.Core.Bool.{true}
+use mathlib.Core.List.{List}
+use lib.ListN.{length, take, drop, replicate, length-drop}
+use lib.Seq.{length-take-le}
+use lib.Ieee.{Float}
+use borrow.Author.Tests.{ltb-true, leb-true}
+use Rattle.definition.specs.Number.{zero64}
+use Rattle.definition.specs.Problem.{Setup, Terms, areaWords}
+use Rattle.definition.specs.Counters as C
+use Rattle.definition.specs.Machine as M
+use Rattle.definition.specs.Driver.{begin}
+use Rattle.definition.specs.Log.{Entries}
+use Rattle.area.specs.Area.{view, X0}
+use Rattle.problem.specs.Setups.{placesIn, setupIn}
+use Rattle.problem.specs.declared.Options.{Options}
+use Rattle.compact.specs.declared.Shape.{Shape}
+use Rattle.compact.specs.State.{Sound}
+use Rattle.counters.specs.Counts.{countersOf}
+use Rattle.fit.specs.State.{phaseOf}
+use Rattle.fit.specs.declared.Fit.{Fit}
+use Rattle.fit.specs.declared.Phase.{Phase}
+use Rattle.fit.specs.declared.Phase.the-variants.{Value, Gradient, Probe, Notice, Ended}
+use Rattle.question.specs.Reports.{Within}
+use Rattle.opening.specs.Opened.{setupAt, Room, Fits, Opened}
+use Rattle.driver.specs.Replies.{shapeHeld, isReady, Marks}
+use Rattle.driver.proofs.Laws.{and-l, and-r, ready-facts, facts-ready, shape-again, marked-machine}
+use Rattle.record.specs.Records.{setupFrom}
+use Rattle.replay.specs.Replays.{Keeps, Replays}
+use Rattle.replay.specs.declared.Replayed.{Replayed}
+use Rattle.replay.specs.declared.Replayed.the-variants as R
+use Rattle.rebuild.specs.Built.{zeroed, Markable, Settles, Built, Unbuilt, Builds}
+use Rattle.held.proofs.Laws.{setup-same, marked-setup}
+
+-- ---- the opening
+
+-- what `reset` asks
+pub ready-room : (t : Fit) (size : ℕ) → isReady t size ≡ true → Room (t .options) (t .shape .n) size
+ready-room t size h =
+    let f = ready-facts t size h in
+    let all = subst (λ (m : ℕ). (16 + 4 * m) * t .shape .n ≤ size) (sym (f .places)) (f .ready .sound .all) in
+    record { all = all; few = omega (arith, f .places, f .ready .sound .few); some = omega (arith, f .places, f .some) }
+
+opened-within : (p : Phase) (n : ℕ) → phaseOf p ≡ M.Phase.value M.Place.start → Within p n
+opened-within (Value w) n e = tt
+opened-within (Gradient w) n e = tt
+opened-within (Probe w i s) n e = let z : _≡_ {A = ℕ} 0 1 = cc in absurd (omega arith)
+opened-within Notice n e = tt
+opened-within (Ended t) n e = tt
+
+-- a setup opened again, in the place of a fit that passes the test, passes it too, whether or not the setup is accepted
+pub opened-ready : (t : Fit) {r : Fit} {s : Setup} {b : List Float} → isReady t (length b) ≡ true → Opened (t .options) (t .shape .n) s (length b) r b → isReady r (length b) ≡ true
+unfolding begin
+opened-ready t {r} {s} {b} h k =
+    let f = ready-facts t (length b) h in
+    let m : r .shape .m ≡ t .shape .m = k .m ∙ f .places in
+    let counts : countersOf (r .counters) ≡ C.firstCounters = ap (λ (x : M.Machine). x .counters) (k .is) in
+    let nit : r .counters .nit ≡ 0 = ap (λ (x : C.Counters). x .nit) counts in
+    let njev : r .counters .njev ≡ 0 = ap (λ (x : C.Counters). x .njev) counts in
+    let drawn : r .counters .drawn ≡ 1 = ap (λ (x : C.Counters). x .drawn) counts in
+    let area : areaWords (r .shape .n) (r .shape .m) ≤ length b = rw (k .n, m) (f .area) in
+    facts-ready r (length b)
+    (record {
+      ready = record {
+        sound = k .sound;
+        small = record { nit = omega (arith, nit); drawn = omega (arith, drawn) };
+        njev = omega (arith, njev);
+        n = omega (arith, k .n, f .ready .n);
+      };
+      within = opened-within (r .phase) (r .shape .n) (ap (λ (x : M.Machine). x .phase) (k .is));
+      shape = shape-again (t .shape) (r .shape) (length b) (f .shape) (k .n) m (k .sound);
+      positive = omega (arith, k .n, f .positive);
+      some = omega (arith, m, f .some);
+      places = ap placesIn (k .options) ∙ sym (k .m);
+      area = area;
+      entries = omega (arith, k .entries);
+      words = omega (arith, k .words);
+    })
+
+-- the area is as long as before
+pub opened-here : {o : Options} {n size : ℕ} {s : Setup} {r : Fit} {b : List Float} → length b ≡ size → Opened o n s size r b → Opened o n s (length b) r b
+opened-here {o} {n} {s = s} {r = r} {b = b} e k = subst (λ (i : ℕ). Opened o n s i r b) (sym e) k
+
+-- ---- three vectors one behind the other
+
+module _ (o : Options) (v : List Float) (n : ℕ) where
+  -- what `begin` asks of them, as they are lent
+  pub parts-fit : (size : ℕ) → Room o n size → 3 * n ≤ length v
+      → Room o (length (take (n - 0) v)) size × Fits o (length (take (n - 0) v)) (take (2 * n - n) (drop n v)) (take (3 * n - 2 * n) (drop (2 * n) v))
+  parts-fit size k h =
+      let start : length (take (n - 0) v) ≡ n = length-take-le (n - 0) v (omega arith) ∙ omega arith in
+      let lower : length (take (2 * n - n) (drop n v)) ≡ n = length-take-le (2 * n - n) (drop n v) (omega (arith, length-drop n v)) ∙ omega arith in
+      let upper : length (take (3 * n - 2 * n) (drop (2 * n) v)) ≡ n = length-take-le (3 * n - 2 * n) (drop (2 * n) v) (omega (arith, length-drop (2 * n) v)) ∙ omega arith in
+      (subst (λ (i : ℕ). Room o i size) (sym start) k, record { lower = λ e. lower ∙ sym start; upper = λ e. upper ∙ sym start })
+
+  pub parts-opened : {size : ℕ} {r : Fit} {b : List Float} → 3 * n ≤ length v
+      → Opened o (length (take (n - 0) v)) (setupIn o (take (n - 0) v) (take (2 * n - n) (drop n v)) (take (3 * n - 2 * n) (drop (2 * n) v))) size r b
+      → Opened o n (setupFrom o v n) size r b
+  parts-opened {size} {r} {b} h k =
+      let first : n - 0 ≡ n = omega arith in
+      let second : 2 * n - n ≡ n = omega arith in
+      let third : 3 * n - 2 * n ≡ n = omega arith in
+      let start : length (take n v) ≡ n = length-take-le n v (omega arith) in
+      subst (λ (i : ℕ). Opened o i (setupFrom o v n) size r b) start (rw (first, second, third) at k)
+
+-- ---- the replay
+
+pub markable : {t : Fit} {a : List Float} {ws : List ℕ} {limit room : ℕ} (r : Replayed) {b : List Float} → Replays t a ws limit room r b → Markable r (length b)
+markable (R.Done f) h = h .kept .shape
+markable (R.Refused c) h = tt
+
+record Ring (h : Shape) (size : ℕ) : Type 0 where
+  some : 0 < h .m
+  few : h .m ≤ 16
+  most : h .pairs ≤ h .m
+  ring : h .oldest < h .m
+  area : areaWords (h .n) (h .m) ≤ size
+
+held-ring : (h : Shape) (size : ℕ) → shapeHeld h size ≡ true → Ring h size
+held-ring h size k = search (and-l, and-r, ltb-true, leb-true) depth 9
+
+held-sound : (h : Shape) (size : ℕ) → shapeHeld h size ≡ true → Sound h size
+held-sound h size k = let r = held-ring h size k in omega (arith, r)
+
+module _ {o : Options} {n : ℕ} {s : Setup} {t : Fit} {a : List Float} (k : Opened o n s (length a) t a) where
+  opened-setup : setupAt (t .options) (view a (t .shape .n)) ≡ s
+  opened-setup = rw (k .options, k .n) (k .setup)
+
+  module _ {ws : List ℕ} {limit room : ℕ} where
+    kept-setup : {f : Fit} {b : List Float} → Keeps t a ws limit room f b → setupAt (f .options) (view b (f .shape .n)) ≡ s
+    kept-setup {f} {b} h =
+        let x0 = ap (λ (i : ℕ). view b i X0) (h .n) ∙ h .x0 in
+        setup-same (f .options) (view a (t .shape .n)) (view b (f .shape .n)) x0 (ap (λ (x : Terms). x .bounds .lower) (h .terms)) (ap (λ (x : Terms). x .bounds .upper) (h .terms))
+        ∙ ap (λ (p : Options). setupAt p (view a (t .shape .n))) (h .options)
+        ∙ opened-setup
+
+    built : {f : Fit} {b c : List Float} → Replays t a ws limit room (R.Done f) b → Marks (f .shape) b c → Built s ws limit room (length a) f c
+    built {f} {b} {c} h m =
+        let kept = h .kept in
+        let sound = held-sound (f .shape) (length b) (kept .shape) in
+        let same = marked-machine f b c sound m in
+        record {
+          long = m .size ∙ h .size;
+          setup = marked-setup (f .options) f b c m ∙ kept-setup kept;
+          sound = rw (m .size) sound;
+          mark = m .mark;
+          settled = kept .settled (k .settled);
+          few = kept .few;
+          words = kept .words;
+          within = kept .within;
+          stopped = kept .stopped;
+          is = λ e.
+              let r = h .is s e opened-setup (k .is) in
+              record {
+                replies = r .replies;
+                after = r .after ∙ ap (Entries.going (drop (f .words) ws) (r .replies)) (sym same);
+                due = r .due;
+                is = same ∙ r .is;
+                spelled = r .spelled;
+                entries = r .entries;
+                words = r .words;
+              };
+        }
+
+    unbuilt : {number : ℕ} {b d : List Float} → Replays t a ws limit room (R.Refused number) b → d ≡ zeroed b → Unbuilt s ws limit room (length a) number d
+    unbuilt h z = record {
+      which = h .kept;
+      area = z ∙ ap (λ (i : ℕ). replicate i zero64) (h .size);
+      is = λ e. h .is s e opened-setup (k .is);
+    }
+
+    pub builds : (r : Replayed) (b c : List Float) → Replays t a ws limit room r b → Settles r b c → Builds s ws limit room (length a) r c
+    builds (R.Done f) b c h m = built h m
+    builds (R.Refused i) b c h m = unbuilt h m

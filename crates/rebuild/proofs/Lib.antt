@@ -1,0 +1,4 @@
+pub mod Pasted
+pub mod Reread
+pub mod Built
+pub mod Recorded

@@ -1,0 +1,75 @@
+-- What the parts of a take back and of a restore do: words zeroed or copied, and the fit of a setup and entries built anew.
+use Prim.Native.Nat.{ℕ, _+_, _-_, _*_, _≤_, _<_}
+use mathlib.Core.Path.{_≡_}
+use mathlib.Core.Bool.{true}
+use mathlib.Core.Logic.{_⊎_}
+use mathlib.Core.List.{List, _++_}
+use lib.ListN.{length, take, drop, replicate}
+use lib.Ieee.{Float}
+use Rattle.definition.specs.Number.{zero64}
+use Rattle.definition.specs.Problem as P
+use Rattle.definition.specs.Record.{wordsOf}
+use Rattle.definition.specs.Replies.{Accepted}
+use Rattle.area.specs.Area.{view}
+use Rattle.compact.specs.State.{Sound}
+use Rattle.search.specs.State.{Settled}
+use Rattle.fit.specs.declared.Fit.{Fit}
+use Rattle.opening.specs.Opened.{setupAt}
+use Rattle.driver.specs.Replies.{shapeHeld, marked, Marks}
+use Rattle.record.specs.declared.Frame.{Frame}
+use Rattle.replay.specs.Replays.{ReplayedTo, RefusedAt}
+use Rattle.replay.specs.declared.Replayed.{Replayed}
+use Rattle.replay.specs.declared.Replayed.the-variants as R
+
+-- ---- words
+
+abbrev pub zeroed : List Float → List Float
+zeroed a = replicate (length a) zero64
+
+-- the words from one number to another are zero
+abbrev pub struckOut : ℕ → ℕ → List ℕ → List ℕ
+struckOut from to l = take from l ++ replicate (to - from) 0 ++ drop to l
+
+-- the words of a record's entries
+abbrev pub entriesIn : List ℕ → Frame → List ℕ
+entriesIn bs f = wordsOf (f .words - f .setup) (drop (f .at + 8 * f .setup) bs)
+
+-- ws in place of as many of the first words
+abbrev pub headed : List ℕ → List ℕ → List ℕ
+headed ws l = ws ++ drop (length ws) l
+
+-- ---- what a replay leaves
+
+abbrev pub Markable : Replayed → ℕ → Type 0
+Markable (R.Done f) size = shapeHeld (f .shape) size ≡ true
+Markable (R.Refused c) size = Unit {0}
+
+-- the fit marked, or the area zeroed
+abbrev pub Settles : Replayed → List Float → List Float → Type 0
+Settles (R.Done f) a b = Marks (f .shape) a b
+Settles (R.Refused k) a b = b ≡ zeroed a
+
+-- ---- a fit built from a setup and the words of entries
+
+-- f with the marked area b, of `size` words, holds the setup s and what at most `limit` entries of ws make of it
+pub record Built (s : P.Setup) (ws : List ℕ) (limit room size : ℕ) (f : Fit) (b : List Float) : Type 0 where
+  pub long : length b ≡ size
+  pub setup : setupAt (f .options) (view b (f .shape .n)) ≡ s
+  pub sound : Sound (f .shape) (length b)
+  pub mark : marked (f .shape) b ≡ true
+  pub settled : Settled (f .search) (f .trials)
+  pub few : f .entries ≤ limit
+  pub words : f .words ≤ length ws
+  pub within : f .words ≤ room
+  pub stopped : (f .words ≡ length ws) ⊎ (f .entries ≡ limit)
+  pub is : Accepted s → ReplayedTo s ws room f b
+
+-- an entry is refused, for want of room only where there are more words than room: the area is zero
+pub record Unbuilt (s : P.Setup) (ws : List ℕ) (limit room size number : ℕ) (b : List Float) : Type 0 where
+  pub which : (number ≡ 17) ⊎ ((number ≡ 12) × (room < length ws))
+  pub area : b ≡ replicate size zero64
+  pub is : Accepted s → RefusedAt s ws limit room number
+
+abbrev pub Builds : P.Setup → List ℕ → ℕ → ℕ → ℕ → Replayed → List Float → Type 0
+Builds s ws limit room size (R.Done f) b = Built s ws limit room size f b
+Builds s ws limit room size (R.Refused c) b = Unbuilt s ws limit room size c b

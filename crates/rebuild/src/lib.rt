@@ -1,0 +1,114 @@
+// The fit of a setup and entries, built anew: from the log, or from a record.
+ghost use mathlib.Core.Path.{_≡_};
+ghost use mathlib.Core.Bool.{true};
+ghost use mathlib.Core.Option.{none};
+ghost use Prim.Native.Nat.{_+_, _-_, _*_, _≤_};
+ghost use lib.ListN.{length, take, drop};
+ghost use Rattle.definition.specs.Record.{wordsOf, setupIn as setupRead};
+ghost use Rattle.area.specs.Area.{view};
+ghost use Rattle.opening.specs.Opened.{setupAt, Room, Opened};
+ghost use Rattle.driver.specs.Replies.{isReady};
+ghost use Rattle.record.specs.Records.{wordsIn, setupFrom, Opens};
+ghost use Rattle.rebuild.specs.Built.{zeroed, struckOut, entriesIn, headed, Markable, Settles, Builds};
+use fit::Fit;
+use problem::Options;
+use replay::Replayed;
+use replay::Source;
+
+fn zero_area(area: &mut [f64])
+    ensures { λ _. ⌜ now (area .exit) ≡ zeroed (now (area .entry)) ⌝ }
+{
+    let mut i = 0;
+    while i < area.len() {
+        area[i] = 0.0;
+        i += 1;
+    }
+}
+
+// The log's words from one number to another.
+pub fn zero_log(log: &mut [u64], from: usize, to: usize)
+    requires { ⌜ (from ≤ to) × (to ≤ length (now log)) ⌝ }
+    ensures { λ _. ⌜ now (log .exit) ≡ struckOut from to (now (log .entry)) ⌝ }
+{
+    let mut i = from;
+    while i < to {
+        log[i] = 0;
+        i += 1;
+    }
+}
+
+// What a replay leaves: an entry that is refused leaves the area zero.
+fn settle(area: &mut [f64], r: Replayed)
+    requires { ⌜ Markable r (length (now area)) ⌝ }
+    ensures { λ _. ⌜ Settles r (now (area .entry)) (now (area .exit)) ⌝ }
+{
+    match r {
+        Replayed::Refused(_) => zero_area(area),
+        Replayed::Done(t) => {
+            let h = t.shape;
+            driver::mark(area, h);
+        }
+    }
+}
+
+// The first fit of options and three vectors of n words one behind the other.
+fn begin_from(o: Options, area: &mut [f64], v: &[f64], n: usize) -> Fit
+    requires { ⌜ Room o n (length (now area)) × (3 * n ≤ length (now v)) ⌝ }
+    ensures { λ r. ⌜ Opened o n (setupFrom o (now (v .entry)) n) (length (now (area .entry))) r (now (area .exit)) ⌝ }
+{
+    opening::begin(o, area, &v[0..n], &v[n..2 * n], &v[2 * n..3 * n])
+}
+
+// The fit of the log's first `count` entries, from the setup that state and area hold.
+pub fn replay_log(fit: Fit, area: &mut [f64], log: &[u64], count: usize) -> Replayed
+    requires { ⌜ (isReady fit (length (now area)) ≡ true) × (fit .words ≤ length (now log)) ⌝ }
+    ensures { λ o. ⌜ Builds (setupAt (fit .options) (view (now (area .entry)) (fit .shape .n))) (take (fit .words) (now (log .entry))) count (length (now (log .entry))) (length (now (area .entry))) o (now (area .exit)) ⌝ }
+{
+    let o = fit.options;
+    let t = opening::reset(o, area, fit.shape.n);
+    let none = [0u8; 1];
+    let source = Source {
+        recorded: false,
+        at: 0,
+        words: fit.words,
+    };
+    let r = replay::replay(t, area, source, log, &none[..], count, log.len());
+    settle(area, r);
+    r
+}
+
+// The fit of a record's setup and entries; the log is not touched. Each entry has a word, so none is past `words` of them.
+pub fn replay_record(
+    area: &mut [f64],
+    log: &[u64],
+    input: &[u8],
+    o: Options,
+    f: record::Frame,
+) -> Replayed
+    requires { ⌜ Opens (now input) (length (now area)) o f ⌝ }
+    ensures { λ r. ⌜ Builds (setupRead (wordsIn (now (input .entry)) f)) (entriesIn (now (input .entry)) f) (f .words - f .setup) (length (now (log .entry))) (length (now (area .entry))) r (now (area .exit)) ⌝ }
+{
+    let v = record::vectors(input, f);
+    let t = begin_from(o, area, &v, f.n);
+    let words = f.words - f.setup;
+    let source = Source {
+        recorded: true,
+        at: f.at + 8 * f.setup,
+        words: words,
+    };
+    let r = replay::replay(t, area, source, log, input, words, log.len());
+    settle(area, r);
+    r
+}
+
+// The words of a record's entries into the log.
+pub fn copy_entries(log: &mut [u64], input: &[u8], at: usize, count: usize)
+    requires { ⌜ (at + 8 * count ≤ length (now input)) × (count ≤ length (now log)) ⌝ }
+    ensures { λ _. ⌜ now (log .exit) ≡ headed (wordsOf count (drop at (now (input .entry)))) (now (log .entry)) ⌝ }
+{
+    let mut i = 0;
+    while i < count {
+        log[i] = record::word_at(input, at + 8 * i);
+        i += 1;
+    }
+}
