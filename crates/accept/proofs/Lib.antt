@@ -1,3 +1,4 @@
 pub mod Checks
 pub mod Laws
 pub mod Replying
+pub mod Starting

@@ -5,7 +5,7 @@ use mathlib.Core.Path.{_≡_, refl, sym, ap, _∙_}
 use mathlib.Core.Bool.{Bool, true, false, not, false≢true}
 use mathlib.Core.List.{List, map}
 use mathlib.Core.Option.{none}
-use borrow.Author.Tests.{lt-ltb, le-ltb, eq-eqb, ne-eqb, eqb-true, not-false}
+use borrow.Author.Tests.{lt-ltb, le-ltb, ltb-false, eq-eqb, ne-eqb, eqb-true, not-false}
 use lib.Dec.{eqb, ltb}
 use lib.ListN.{length, take, drop}
 use lib.Seq.{take-length}
@@ -114,6 +114,13 @@ said-undue t a room q e h = e ∙ rw h refl
 pub said-due : (t : Fit) (a : List Float) (room : ℕ) (q : M.Reply) → takes (machineOf t a) q ≡ true
     → (checkLength (t .shape .n) q then when (ltb room (t .words + length (entryWords q))) (refuse 12 0 0)) ≡ checkSaid t a room q
 said-due t a room q h = rw h refl
+
+-- the check passed: the reply is due, and its entry has room
+pub said-passed : (t : Fit) (a : List Float) (l : List ℕ) (r : M.Reply) → checkSaid t a (length l) r ≡ none
+    → (checkDue (machineOf t a) r ≡ none) × (t .words + length (entryWords r) ≤ length l)
+said-passed t a l r e =
+    let p = both-passed (checkDue (machineOf t a) r) (when (ltb (length l) (t .words + length (entryWords r))) (refuse 12 0 0)) e in
+    (p .0, ltb-false (length l) _ (test-failed (ltb (length l) (t .words + length (entryWords r))) _ (p .1)))
 
 -- ---- a gradient's words in the area
 

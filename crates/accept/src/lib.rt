@@ -1,7 +1,7 @@
 // What a start and a reply are checked for, the entry of a reply in the log, and the fit that it advances.
 ghost use mathlib.Core.Path.{_≡_};
 ghost use mathlib.Core.Bool.{true};
-ghost use mathlib.Core.List.{List};
+ghost use mathlib.Core.List.{List, []};
 ghost use mathlib.Core.Option.{none};
 ghost use Prim.Native.Nat.{ℕ, _+_, _-_, _*_, _≤_};
 ghost use lib.Dec.{ltb};
@@ -17,6 +17,7 @@ ghost use Rattle.fit.specs.State.{machineOf};
 ghost use Rattle.driver.specs.Replies.{isReady};
 ghost use Rattle.accept.specs.Moves.{entryKind, written, stored, checkSaid, Advances};
 ghost use Rattle.replay.specs.Taken.{replied};
+ghost use Rattle.held.specs.Words.{words, Held};
 use driver::Reply;
 use fit::Fit;
 use problem::Checked;
@@ -45,6 +46,17 @@ pub fn check_start(o: Options, x0: &[f64], lower: &[f64], upper: &[f64], size: u
         return rows;
     };
     check_area(o, x0.len(), size)
+}
+
+// The fit of a setup that passed, at its first question: no entry is in the log.
+pub fn opened(o: Options, area: &mut [f64], x0: &[f64], lower: &[f64], upper: &[f64]) -> Fit
+    requires { ⌜ (let s = setupIn o (now x0) (now lower) (now upper) in (validate s then checkArea (record { area = length (now area); log = 0 }) s) ≡ none) ⌝ }
+    ensures { λ f. ⌜ ((l : List ℕ) → Held (words f (now (area .exit)) l) (setupIn o (now (x0 .entry)) (now (lower .entry)) (now (upper .entry))) []) ⌝ }
+{
+    let f = opening::begin(o, area, x0, lower, upper);
+    let h = f.shape;
+    driver::mark(area, h);
+    f
 }
 
 // ---- reply
@@ -119,7 +131,7 @@ fn log_gradient(log: &mut [u64], at: usize, words: &[u64])
 }
 
 // The entry of a reply into the log.
-pub fn log_entry(log: &mut [u64], at: usize, r: Reply, gradient: &[u64])
+fn log_entry(log: &mut [u64], at: usize, r: Reply, gradient: &[u64])
     requires { ⌜ at + length (entryWords (replied r (now gradient))) ≤ length (now log) ⌝ }
     ensures { λ _. ⌜ now (log .exit) ≡ written at (entryWords (replied r (now (gradient .entry)))) (now (log .entry)) ⌝ }
 {
@@ -148,7 +160,7 @@ fn put_gradient(area: &mut [f64], n: usize, r: Reply, gradient: &[u64])
 }
 
 // The fit advanced by a reply that is due.
-pub fn advanced(t: Fit, area: &mut [f64], r: Reply, gradient: &[u64]) -> Fit
+fn advanced(t: Fit, area: &mut [f64], r: Reply, gradient: &[u64]) -> Fit
     requires { ⌜ (isReady t (length (now area)) ≡ true) × (checkDue (machineOf t (now area)) (replied r (now gradient)) ≡ none) ⌝ }
     ensures { λ f. ⌜ Advances (replied r (now (gradient .entry))) t (now (area .entry)) f (now (area .exit)) ⌝ }
 {
@@ -158,4 +170,13 @@ pub fn advanced(t: Fit, area: &mut [f64], r: Reply, gradient: &[u64]) -> Fit
     let h = f.shape;
     driver::mark(area, h);
     replay::counted(f, record::entry_length(kind_of(r), n))
+}
+
+// A reply that passed, into the log and into the fit.
+pub fn keep(t: Fit, area: &mut [f64], log: &mut [u64], r: Reply, gradient: &[u64]) -> Fit
+    requires { ⌜ (isReady t (length (now area)) ≡ true) × (checkSaid t (now area) (length (now log)) (replied r (now gradient)) ≡ none) ⌝ }
+    ensures { λ f. ⌜ Advances (replied r (now (gradient .entry))) t (now (area .entry)) f (now (area .exit)) × (now (log .exit) ≡ written (t .words) (entryWords (replied r (now (gradient .entry)))) (now (log .entry))) ⌝ }
+{
+    log_entry(log, t.words, r, gradient);
+    advanced(t, area, r, gradient)
 }

@@ -1,35 +1,25 @@
 -- The answers of `start` and `reply` with what they leave, over plain words. Assumes nothing.
-use Prim.Native.Nat.{ℕ, _+_, _≤_}
+use Prim.Native.Nat.{ℕ}
 use native.Mathlib.Omega.{arith}
 use mathlib.Core.Path.{_≡_, refl, sym, ap, _∙_}
 use mathlib.Core.Bool.{true, false, false≢true, true≢false}
 use mathlib.Core.List.{List, [], _∷_, _++_}
 use mathlib.Core.Option.{none, some}
-use borrow.Author.Tests.{ltb-false}
-use lib.Dec.{ltb}
 use lib.ListN.{length, take, drop}
 use lib.Ieee.{Float}
 use Rattle.definition.specs.Problem as P
-use Rattle.definition.specs.Problem.{Refusal, refuse, when, _then_, validate, areaNeeded}
+use Rattle.definition.specs.Problem.{Refusal, _then_, validate}
 use Rattle.definition.specs.Machine as M
-use Rattle.definition.specs.Machine.{checkDue}
-use Rattle.definition.specs.Log.{entryWords, logWords}
+use Rattle.definition.specs.Log.{entryWords}
 use Rattle.definition.specs.Record.{checkArea, plainRefusal}
 use Rattle.definition.specs.History as H
 use Rattle.definition.specs.History.{Call, History, historyStep, historyAnswer, checkReply}
-use Rattle.definition.proofs.Accepted.{both-passed, test-failed}
-use Rattle.area.proofs.Sizes.{behind}
-use Rattle.problem.specs.Setups.{setupIn, placesIn}
-use Rattle.problem.specs.declared.Options.{Options}
-use Rattle.problem.proofs.Accepted.{accepted}
-use Rattle.fit.specs.State.{machineOf}
 use Rattle.fit.specs.declared.Fit.{Fit}
-use Rattle.opening.specs.Opened.{Room, Fits, Opened}
-use Rattle.driver.specs.Replies.{isHeld, Marks}
+use Rattle.driver.specs.Replies.{isHeld}
 use Rattle.lbfgsb.specs.Words.{Words, words, lengths, Held, Holds}
 use Rattle.lbfgsb.specs.Did.{Started, checkAt, Moved, Replied}
 use Rattle.accept.specs.Moves.{written, checkSaid, Advances}
-use Rattle.held.proofs.Laws.{Reached, reached-marked, reached-held, opened-reached}
+use Rattle.accept.proofs.Replying.{said-passed}
 use Rattle.accept.proofs.Laws.{held-advanced, written-length}
 
 unlike : (r : Refusal) → H.Answer.refused r ≡ H.Answer.done → ⊥
@@ -58,35 +48,6 @@ start-done s w w' e z l h = record {
   opened = λ p. h;
   log = l;
 }
-
--- what the checks of a setup leave to the opening
-pub start-room : (o : Options) (x0 l u : List Float) (size k : ℕ)
-    → (validate (setupIn o x0 l u) then checkArea (record { area = size; log = k }) (setupIn o x0 l u)) ≡ none → Room o (length x0) size × Fits o (length x0) l u
-start-room o x0 l u size k e =
-    let s = setupIn o x0 l u in
-    let p = both-passed (validate s) (checkArea (record { area = size; log = k }) s) e in
-    let h = accepted s (p .0) in
-    let z = ltb-false size (areaNeeded s) (test-failed (ltb size (areaNeeded s)) _ (p .1)) in (
-      record { all = omega (arith, z, behind (length x0) (placesIn o)); few = h .pairs-high; some = h .pairs-low },
-      record { lower = λ b. rw b at (h .lower-long); upper = λ b. rw b at (h .upper-long) },
-    )
-
--- the fit just opened
-pub start-reached : (s : P.Setup) (o : Options) (n k : ℕ) (a b : List Float) (t : Fit)
-    → (validate s then checkArea (record { area = length a; log = k }) s) ≡ none → length b ≡ length a → Opened o n s (length a) t b → Reached t b s []
-start-reached s o n k a b t e z h =
-    let p = both-passed (validate s) (checkArea (record { area = length a; log = k }) s) e in
-    let room = ltb-false (length a) (areaNeeded s) (test-failed (ltb (length a) (areaNeeded s)) _ (p .1)) in
-    let h' : Opened o n s (length b) t b = rw z h in
-    opened-reached (p .0) (rw z room) h'
-
-pub start-held : {t : Fit} {a b : List Float} {s : P.Setup} (l : List ℕ) → Reached t a s [] → Marks (t .shape) a b → Held (words t b l) s []
-unfolding logWords
-start-held l h m = reached-held (reached-marked h m) (m .mark) (rw (h .words) (omega arith)) (rw (h .words) refl)
-
-pub start-opened : (s : P.Setup) (w : Words) (t : Fit) (a b : List Float) → (validate s then checkArea (lengths w) s) ≡ none → length a ≡ length (w .area)
-    → Reached t a s [] → Marks (t .shape) a b → Started s w (words t b (w .log)) H.Answer.done
-start-opened s w t a b e z h m = start-done s w (words t b (w .log)) e (λ i. record { area = (m .size ∙ z) i; log = length (w .log) }) refl (start-held (w .log) h m)
 
 -- ---- reply
 
@@ -153,13 +114,6 @@ reply-done r w w' t e z v m = record {
 }
 
 -- ---- the fit advanced
-
--- the check passed: the reply is due, and its entry has room
-pub said-passed : (t : Fit) (a : List Float) (l : List ℕ) (r : M.Reply) → checkSaid t a (length l) r ≡ none
-    → (checkDue (machineOf t a) r ≡ none) × (t .words + length (entryWords r) ≤ length l)
-said-passed t a l r e =
-    let p = both-passed (checkDue (machineOf t a) r) (when (ltb (length l) (t .words + length (entryWords r))) (refuse 12 0 0)) e in
-    (p .0, ltb-false (length l) _ (test-failed (ltb (length l) (t .words + length (entryWords r))) _ (p .1)))
 
 moved : {r : M.Reply} {t f : Fit} {a b : List Float} (l : List ℕ) → Advances r t a f b → Moved r (words t a l) (words f b (written (t .words) (entryWords r) l))
 moved {r} {t} l h = record {

@@ -28,9 +28,10 @@ use Rattle.driver.specs.Replies.{isHeld}
 use Rattle.replay.specs.Replays.{ReplayedTo, RefusedAt}
 use Rattle.replay.specs.declared.Replayed.{Replayed}
 use Rattle.replay.specs.declared.Replayed.the-variants as R
-use Rattle.lbfgsb.specs.Words.{Words, words, lengths, setupOf, logIn, Held, Holds}
+use Rattle.lbfgsb.specs.declared.Answer.{Answer}
+use Rattle.lbfgsb.specs.Words.{Words, words, lengths, setupOf, logIn, Held, Holds, next, nextBy, kept, keptBy}
 use Rattle.lbfgsb.specs.Did.{checkBack, Spoiled, TakesBack, TakenBack}
-use Rattle.rebuild.specs.Built.{struckOut, Built, Unbuilt, Builds}
+use Rattle.rebuild.specs.Built.{struckOut, Built, Unbuilt, Builds, Shortens}
 use Rattle.held.proofs.Laws.{reached-held, held-reached}
 use Rattle.rebuild.proofs.Reread.{log-front, behind, log-unrefused, log-replayed}
 
@@ -203,31 +204,25 @@ module _ (t : Fit) (a : List Float) (l : List ℕ) (j : ℕ) (test : isHeld t a 
       is = λ k. subst (λ (i : ℕ). RefusedAt (setupOf was) (logIn was) (t .entries - j) (length l) i) always-17 (h .is k);
     }
 
-    back-zeroed : (c : Q.Refusal) → refusalOf c ≡ plainRefusal number → TakenBack j was (words t b l) (H.Answer.refused (refusalOf c))
-    back-zeroed c e = record {
+    back-zeroed : TakenBack j was (words t b l) (H.Answer.refused (plainRefusal number))
+    back-zeroed = record {
       did = record {
         sized = ap (λ (x : ℕ). record { area = x; log = length l }) (ap length (h .area) ∙ length-replicate (length a) zero64);
         holds = fits (λ g. Holds (words t b l) (historyStep (lengths was) g (Call.takeBack j))) (λ s rs k. absurd (unrefused s rs k));
-        said = fits (λ g. H.Answer.refused (refusalOf c) ≡ historyAnswer (lengths was) g (Call.takeBack j)) (λ s rs k. absurd (unrefused s rs k));
+        said = fits (λ g. H.Answer.refused (plainRefusal number) ≡ historyAnswer (lengths was) g (Call.takeBack j)) (λ s rs k. absurd (unrefused s rs k));
       };
       back =
-          subst (λ (o : Check). TakesBack j o was (words t b l) (H.Answer.refused (refusalOf c))) (sym passed)
-          (inr (ap H.Answer.refused (e ∙ ap plainRefusal always-17), spoiled));
+          subst (λ (o : Check). TakesBack j o was (words t b l) (H.Answer.refused (plainRefusal number))) (sym passed)
+          (inr (ap (λ (i : ℕ). H.Answer.refused (plainRefusal i)) always-17, spoiled));
     }
 
-  -- ---- by the answer of the replay
+  -- ---- by what is built
 
-  abbrev Answered : Replayed → List Float → Type 0
-  Answered q b = Builds (setupOf was) (logIn was) (t .entries - j) (length l) (length a) q b
+  built-back : (q : Replayed) (b : List Float) (m : List ℕ) → Builds (setupOf was) (logIn was) (t .entries - j) (length l) (length a) q b → Shortens q (t .words) l m
+      → TakenBack j was (words (nextBy t q) b m) (keptBy q)
+  built-back (R.Done f) b m h z = subst (λ (k : List ℕ). TakenBack j was (words f b k) H.Answer.done) (sym z) (taken-back f b h)
+  built-back (R.Refused i) b m h z = subst (λ (k : List ℕ). TakenBack j was (words t b k) (H.Answer.refused (plainRefusal i))) (sym z) (back-zeroed i b h)
 
-  pub answered-zeroed : (q : Replayed) (number : ℕ) (c : Q.Refusal) → q ≡ R.Refused number → refusalOf c ≡ plainRefusal number → (b : List Float) → Answered q b
-      → TakenBack j was (words t b l) (H.Answer.refused (refusalOf c))
-  answered-zeroed q number c e r b h = back-zeroed number b (subst (λ (x : Replayed). Answered x b) e h) c r
-
-  pub answered-fewer : (q : Replayed) (f : Fit) → q ≡ R.Done f → (b : List Float) → Answered q b → f .words ≤ t .words
-  answered-fewer q f e b h = fewer-words f b (subst (λ (x : Replayed). Answered x b) e h)
-
-  pub answered-back : (q : Replayed) (f : Fit) → q ≡ R.Done f → (b : List Float) → Answered q b → (m : List ℕ) → m ≡ struckOut (f .words) (t .words) l
-      → TakenBack j was (words f b m) H.Answer.done
-  answered-back q f e b h m z =
-      subst (λ (k : List ℕ). TakenBack j was (words f b k) H.Answer.done) (sym z) (taken-back f b (subst (λ (x : Replayed). Answered x b) e h))
+  pub answered-back : (q : Replayed) (o : Answer) (b : List Float) (m : List ℕ) → ((t : Fit) → next t o ≡ nextBy t q) × (kept o ≡ keptBy q)
+      → Builds (setupOf was) (logIn was) (t .entries - j) (length l) (length a) q b × Shortens q (t .words) l m → TakenBack j was (words (next t o) b m) (kept o)
+  answered-back q o b m e h = rw (e .0 t, e .1) (built-back q b m (h .0) (h .1))

@@ -25,11 +25,12 @@ use Rattle.record.specs.Records.{Opens, Parsing}
 use Rattle.replay.specs.Replays.{ReplayedTo}
 use Rattle.replay.specs.declared.Replayed.{Replayed}
 use Rattle.replay.specs.declared.Replayed.the-variants as R
-use Rattle.lbfgsb.specs.Words.{Words, words, lengths, Holds}
+use Rattle.lbfgsb.specs.declared.Answer.{Answer}
+use Rattle.lbfgsb.specs.Words.{Words, words, lengths, Holds, next, nextBy, kept, keptBy}
 use Rattle.lbfgsb.specs.Did.{Restores, Restored}
-use Rattle.rebuild.specs.Built.{headed, Built, Unbuilt, Builds}
+use Rattle.rebuild.specs.Built.{headed, Built, Unbuilt, Builds, Reloads}
 use Rattle.held.proofs.Laws.{reached-held}
-use Rattle.rebuild.proofs.Recorded.{setup, entries, entries-long, entries-within, reading}
+use Rattle.rebuild.proofs.Recorded.{setup, entries, entries-long, reading}
 use Rattle.rebuild.proofs.Reread.{entries-most, refused-read, replayed-all, replayed-read}
 
 -- ---- what the reading says of every history
@@ -93,10 +94,6 @@ module _ (bs : List ℕ) (g : Fit) (a : List Float) (l : List ℕ) (o : Options)
         length-append (wordsOf (t .words) (drop (f .at + 8 * f .setup) bs)) (drop (length (wordsOf (t .words) (drop (f .at + 8 * f .setup) bs))) l)
         ∙ omega (arith, copied-long, length-drop (length (wordsOf (t .words) (drop (f .at + 8 * f .setup) bs))) l, k .within)
 
-    -- what `copy_entries` asks
-    copies-within : (f .at + 8 * f .setup + 8 * t .words ≤ length bs) × (t .words ≤ length l)
-    copies-within = (omega (arith, all-words, entries-long bs (length a) o f h, entries-within bs (length a) o f h), k .within)
-
     restore-kept : Restored bs (words g a l) (words t b now-log) H.Answer.done
     restore-kept =
         restores bs (words g a l) (words t b now-log) H.Answer.done (Reading.accepted (setup bs (length a) o f h) (replayed .replies))
@@ -122,30 +119,25 @@ module _ (bs : List ℕ) (g : Fit) (a : List Float) (l : List ℕ) (o : Options)
         ∙ ap (λ (i : ℕ). drop i l) copied-long))
 
   module _ (number : ℕ) (b : List Float) (k : Unbuilt (setup bs (length a) o f h) (entries bs (length a) o f h) limit (length l) (length a) number b) where
-    restore-zeroed : (c : Q.Refusal) → refusalOf c ≡ plainRefusal number → Restored bs (words g a l) (words g b l) (H.Answer.refused (refusalOf c))
-    restore-zeroed c e =
-        restores bs (words g a l) (words g b l) (H.Answer.refused (refusalOf c)) (Reading.refusedAtEntry (plainRefusal number))
+    restore-zeroed : Restored bs (words g a l) (words g b l) (H.Answer.refused (plainRefusal number))
+    restore-zeroed =
+        restores bs (words g a l) (words g b l) (H.Answer.refused (plainRefusal number)) (Reading.refusedAtEntry (plainRefusal number))
         (reading bs (length a) o f h (length l)
         ∙ ap (readingOf (setup bs (length a) o f h))
         (refused-read (setup bs (length a) o f h) (entries bs (length a) o f h) limit (length l) number (omega (arith, entries-long bs (length a) o f h)) (k .is (h .accepted))))
         (ap (λ (x : ℕ). record { area = x; log = length l }) (ap length (k .area) ∙ length-replicate (length a) zero64))
-        (ap H.Answer.refused e)
+        refl
         (record { state = refl; area = k .area; log = refl })
         (inr refl)
 
-  -- ---- by the answer of the replay
+  -- ---- by what is built
 
-  abbrev Answered : Replayed → List Float → Type 0
-  Answered q b = Builds (setup bs (length a) o f h) (entries bs (length a) o f h) limit (length l) (length a) q b
+  built-restored : (q : Replayed) (b : List Float) (m : List ℕ) → Builds (setup bs (length a) o f h) (entries bs (length a) o f h) limit (length l) (length a) q b
+      → Reloads q bs f l m → Restored bs (words g a l) (words (nextBy g q) b m) (keptBy q)
+  built-restored (R.Done t) b m k z = subst (λ (x : List ℕ). Restored bs (words g a l) (words t b x) H.Answer.done) (sym z) (restore-kept t b k)
+  built-restored (R.Refused i) b m k z = subst (λ (x : List ℕ). Restored bs (words g a l) (words g b x) (H.Answer.refused (plainRefusal i))) (sym z) (restore-zeroed i b k)
 
-  pub answered-zeroed : (q : Replayed) (number : ℕ) (c : Q.Refusal) → q ≡ R.Refused number → refusalOf c ≡ plainRefusal number → (b : List Float) → Answered q b
-      → Restored bs (words g a l) (words g b l) (H.Answer.refused (refusalOf c))
-  answered-zeroed q number c e r b k = restore-zeroed number b (subst (λ (x : Replayed). Answered x b) e k) c r
-
-  pub answered-within : (q : Replayed) (t : Fit) → q ≡ R.Done t → (b : List Float) → Answered q b → (f .at + 8 * f .setup + 8 * t .words ≤ length bs) × (t .words ≤ length l)
-  answered-within q t e b k = copies-within t b (subst (λ (x : Replayed). Answered x b) e k)
-
-  pub answered-kept : (q : Replayed) (t : Fit) → q ≡ R.Done t → (b : List Float) → Answered q b
-      → (m : List ℕ) → m ≡ headed (wordsOf (t .words) (drop (f .at + 8 * f .setup) bs)) l → Restored bs (words g a l) (words t b m) H.Answer.done
-  answered-kept q t e b k m z =
-      subst (λ (x : List ℕ). Restored bs (words g a l) (words t b x) H.Answer.done) (sym z) (restore-kept t b (subst (λ (x : Replayed). Answered x b) e k))
+  pub answered-restored : (q : Replayed) (p : Answer) (b : List Float) (m : List ℕ) → ((t : Fit) → next t p ≡ nextBy t q) × (kept p ≡ keptBy q)
+      → Builds (setup bs (length a) o f h) (entries bs (length a) o f h) limit (length l) (length a) q b × Reloads q bs f l m
+      → Restored bs (words g a l) (words (next g p) b m) (kept p)
+  answered-restored q p b m e k = rw (e .0 g, e .1) (built-restored q b m (k .0) (k .1))

@@ -7,12 +7,15 @@ use mathlib.Core.Option.{none, some}
 use lib.ListN.{take}
 use lib.Ieee.{Float}
 use Rattle.definition.specs.Problem as P
+use Rattle.definition.specs.Record.{plainRefusal}
 use Rattle.definition.specs.History as H
 use Rattle.definition.specs.History.{History}
 use Rattle.problem.specs.Setups.{refusalOf}
 use Rattle.fit.specs.declared.Fit.{Fit}
 use Rattle.question.specs.Reports.{reportOf}
 use Rattle.driver.specs.Replies.{isHeld}
+use Rattle.replay.specs.declared.Replayed.{Replayed}
+use Rattle.replay.specs.declared.Replayed.the-variants as D
 use Rattle.lbfgsb.specs.declared.Answer.{Answer}
 use Rattle.lbfgsb.specs.declared.Answer.the-variants as A
 use Rattle.lbfgsb.specs.declared.Asked.{Asked}
@@ -38,6 +41,15 @@ next t (A.Refused c) = t
 abbrev pub kept : Answer → H.Answer
 kept (A.Kept g) = H.Answer.done
 kept (A.Refused c) = H.Answer.refused (refusalOf c)
+
+-- the same of a fit built anew
+abbrev pub nextBy : Fit → Replayed → Fit
+nextBy t (D.Done f) = f
+nextBy t (D.Refused c) = t
+
+abbrev pub keptBy : Replayed → H.Answer
+keptBy (D.Done f) = H.Answer.done
+keptBy (D.Refused c) = H.Answer.refused (plainRefusal c)
 
 -- a refusal with no second detail
 abbrev pub refusalBy : ℕ → ℕ → P.Refusal

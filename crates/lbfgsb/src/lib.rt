@@ -5,7 +5,8 @@ ghost use Prim.Native.Nat.{ℕ, _+_, _-_, _*_};
 ghost use lib.ListN.{length};
 ghost use Rattle.definition.specs.History.{Call};
 ghost use Rattle.problem.specs.Setups.{setupIn, refusalOf};
-ghost use Rattle.lbfgsb.specs.Words.{words, replied, refusalBy, next, kept, asked, told, entered, saved};
+ghost use Rattle.fit.specs.declared.Fit.{Fit};
+ghost use Rattle.lbfgsb.specs.Words.{words, replied, refusalBy, next, nextBy, kept, keptBy, asked, told, entered, saved};
 ghost use Rattle.lbfgsb.specs.Did.{Started, Restored, Replied, TakenBack, Read, Counted, questionAnswer, reportAnswer, entryAnswer, saveAnswer};
 use driver::Reply;
 use fit::Fit;
@@ -67,12 +68,7 @@ pub fn start(
     let check = accept::check_start(o, x0, lower, upper, area.len());
     match check {
         Checked::Refused(c) => Answer::Refused(c),
-        Checked::Passed => {
-            let f = opening::begin(o, area, x0, lower, upper);
-            let h = f.shape;
-            driver::mark(area, h);
-            Answer::Kept(f)
-        }
+        Checked::Passed => Answer::Kept(accept::opened(o, area, x0, lower, upper)),
     }
 }
 
@@ -88,14 +84,21 @@ pub fn reply(fit: Fit, area: &mut [f64], log: &mut [u64], said: Reply, gradient:
     let check = accept::check_reply(fit, said, gradient.len(), log.len());
     match check {
         Checked::Refused(c) => Answer::Refused(c),
-        Checked::Passed => {
-            accept::log_entry(log, fit.words, said, gradient);
-            Answer::Kept(accept::advanced(fit, area, said, gradient))
-        }
+        Checked::Passed => Answer::Kept(accept::keep(fit, area, log, said, gradient)),
     }
 }
 
 // ---- take_back and restore
+
+// The answer by a fit built anew.
+fn answered(r: Replayed) -> Answer
+    ensures { λ o. ⌜ ((t : Fit) → next t o ≡ nextBy t r) × (kept o ≡ keptBy r) ⌝ }
+{
+    match r {
+        Replayed::Refused(c) => Answer::Refused(refusal(c, 0)),
+        Replayed::Done(t) => Answer::Kept(t),
+    }
+}
 
 // The last j replies are taken back, and their words in the log zeroed.
 pub fn take_back(fit: Fit, area: &mut [f64], log: &mut [u64], j: usize) -> Answer
@@ -114,14 +117,7 @@ pub fn take_back(fit: Fit, area: &mut [f64], log: &mut [u64], j: usize) -> Answe
         return Answer::Refused(refusal(12, 0));
     }
     let left = fit.entries - j;
-    let built = rebuild::replay_log(fit, area, log, left);
-    match built {
-        Replayed::Refused(c) => Answer::Refused(refusal(c, 0)),
-        Replayed::Done(back) => {
-            rebuild::zero_log(log, back.words, fit.words);
-            Answer::Kept(back)
-        }
-    }
+    answered(rebuild::shorten(fit, area, log, left))
 }
 
 // Document 01's reading in: the fit of a record, in place of what the words held.
@@ -131,16 +127,7 @@ pub fn restore(fit: Fit, area: &mut [f64], log: &mut [u64], input: &[u8]) -> Ans
     let parsed = record::check(input, area.len());
     match parsed {
         Parsed::Refused(c) => Answer::Refused(c),
-        Parsed::Setup(o, f) => {
-            let built = rebuild::replay_record(area, log, input, o, f);
-            match built {
-                Replayed::Refused(c) => Answer::Refused(refusal(c, 0)),
-                Replayed::Done(read) => {
-                    rebuild::copy_entries(log, input, f.at + 8 * f.setup, read.words);
-                    Answer::Kept(read)
-                }
-            }
-        }
+        Parsed::Setup(o, f) => answered(rebuild::reload(area, log, input, o, f)),
     }
 }
 

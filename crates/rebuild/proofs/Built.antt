@@ -176,3 +176,7 @@ module _ {o : Options} {n : ℕ} {s : Setup} {t : Fit} {a : List Float} (k : Ope
     pub builds : (r : Replayed) (b c : List Float) → Replays t a ws limit room r b → Settles r b c → Builds s ws limit room (length a) r c
     builds (R.Done f) b c h m = built h m
     builds (R.Refused i) b c h m = unbuilt h m
+
+-- the fit has no more words than were replayed
+pub built-fewer : {s : Setup} {limit room size : ℕ} {f : Fit} {b : List Float} (k : ℕ) (l : List ℕ) → Built s (take k l) limit room size f b → k ≤ length l → f .words ≤ k
+built-fewer k l h r = omega (arith, h .words, length-take-le k l r)

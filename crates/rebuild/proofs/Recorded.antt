@@ -21,7 +21,7 @@ use Rattle.record.specs.declared.Frame.{Frame}
 use Rattle.record.specs.Records.{wordsIn, setupFrom, floatsOf, Opens}
 use Rattle.record.proofs.Reading.{words-drop, needed}
 use Rattle.record.proofs.Floats.{opened-setup}
-use Rattle.rebuild.specs.Built.{entriesIn}
+use Rattle.rebuild.specs.Built.{entriesIn, Built}
 use Rattle.held.proofs.Laws.{reached-ready, opened-reached}
 use Rattle.rebuild.proofs.Built.{opened-here}
 
@@ -63,3 +63,8 @@ module _ (bs : List ℕ) (size : ℕ) (o : Options) (f : Frame) (h : Opens bs si
 
   pub record-ready : {r : Fit} {b : List Float} → length b ≡ size → Opened o (f .n) (setupIn (wordsIn bs f)) (length b) r b → isReady r (length b) ≡ true
   record-ready {r} {b} z k = reached-ready (opened-reached (h .accepted) (subst (λ (i : ℕ). areaNeeded setup ≤ i) (sym z) (h .room)) k)
+
+  -- what `copy_entries` asks
+  pub copies-within : {s : Setup} {limit room long : ℕ} {t : Fit} {b : List Float} → Built s (entriesIn bs f) limit room long t b
+      → (f .at + 8 * f .setup + 8 * t .words ≤ length bs) × (t .words ≤ room)
+  copies-within k = (omega (arith, k .words, entries-long, entries-within), k .within)

@@ -73,3 +73,15 @@ pub record Unbuilt (s : P.Setup) (ws : List ℕ) (limit room size number : ℕ) 
 abbrev pub Builds : P.Setup → List ℕ → ℕ → ℕ → ℕ → Replayed → List Float → Type 0
 Builds s ws limit room size (R.Done f) b = Built s ws limit room size f b
 Builds s ws limit room size (R.Refused c) b = Unbuilt s ws limit room size c b
+
+-- ---- the log
+
+-- the words from the fit's last entry to another number are zero; as it was where an entry is refused
+abbrev pub Shortens : Replayed → ℕ → List ℕ → List ℕ → Type 0
+Shortens (R.Done f) to l m = m ≡ struckOut (f .words) to l
+Shortens (R.Refused c) to l m = m ≡ l
+
+-- the words of the record's entries stand in front; as it was where one is refused
+abbrev pub Reloads : Replayed → List ℕ → Frame → List ℕ → List ℕ → Type 0
+Reloads (R.Done t) bs f l m = m ≡ headed (wordsOf (t .words) (drop (f .at + 8 * f .setup) bs)) l
+Reloads (R.Refused c) bs f l m = m ≡ l

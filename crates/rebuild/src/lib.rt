@@ -9,7 +9,7 @@ ghost use Rattle.area.specs.Area.{view};
 ghost use Rattle.opening.specs.Opened.{setupAt, Room, Opened};
 ghost use Rattle.driver.specs.Replies.{isReady};
 ghost use Rattle.record.specs.Records.{wordsIn, setupFrom, Opens};
-ghost use Rattle.rebuild.specs.Built.{zeroed, struckOut, entriesIn, headed, Markable, Settles, Builds};
+ghost use Rattle.rebuild.specs.Built.{zeroed, struckOut, entriesIn, headed, Markable, Settles, Builds, Shortens, Reloads};
 use fit::Fit;
 use problem::Options;
 use replay::Replayed;
@@ -26,7 +26,7 @@ fn zero_area(area: &mut [f64])
 }
 
 // The log's words from one number to another.
-pub fn zero_log(log: &mut [u64], from: usize, to: usize)
+fn zero_log(log: &mut [u64], from: usize, to: usize)
     requires { ⌜ (from ≤ to) × (to ≤ length (now log)) ⌝ }
     ensures { λ _. ⌜ now (log .exit) ≡ struckOut from to (now (log .entry)) ⌝ }
 {
@@ -60,7 +60,7 @@ fn begin_from(o: Options, area: &mut [f64], v: &[f64], n: usize) -> Fit
 }
 
 // The fit of the log's first `count` entries, from the setup that state and area hold.
-pub fn replay_log(fit: Fit, area: &mut [f64], log: &[u64], count: usize) -> Replayed
+fn replay_log(fit: Fit, area: &mut [f64], log: &[u64], count: usize) -> Replayed
     requires { ⌜ (isReady fit (length (now area)) ≡ true) × (fit .words ≤ length (now log)) ⌝ }
     ensures { λ o. ⌜ Builds (setupAt (fit .options) (view (now (area .entry)) (fit .shape .n))) (take (fit .words) (now (log .entry))) count (length (now (log .entry))) (length (now (area .entry))) o (now (area .exit)) ⌝ }
 {
@@ -78,7 +78,7 @@ pub fn replay_log(fit: Fit, area: &mut [f64], log: &[u64], count: usize) -> Repl
 }
 
 // The fit of a record's setup and entries; the log is not touched. Each entry has a word, so none is past `words` of them.
-pub fn replay_record(
+fn replay_record(
     area: &mut [f64],
     log: &[u64],
     input: &[u8],
@@ -102,7 +102,7 @@ pub fn replay_record(
 }
 
 // The words of a record's entries into the log.
-pub fn copy_entries(log: &mut [u64], input: &[u8], at: usize, count: usize)
+fn copy_entries(log: &mut [u64], input: &[u8], at: usize, count: usize)
     requires { ⌜ (at + 8 * count ≤ length (now input)) × (count ≤ length (now log)) ⌝ }
     ensures { λ _. ⌜ now (log .exit) ≡ headed (wordsOf count (drop at (now (input .entry)))) (now (log .entry)) ⌝ }
 {
@@ -111,4 +111,36 @@ pub fn copy_entries(log: &mut [u64], input: &[u8], at: usize, count: usize)
         log[i] = record::word_at(input, at + 8 * i);
         i += 1;
     }
+}
+
+// The log's first `count` entries are kept: the fit of them, and the words of the others zeroed. Where one is refused the log stays.
+pub fn shorten(fit: Fit, area: &mut [f64], log: &mut [u64], count: usize) -> Replayed
+    requires { ⌜ (isReady fit (length (now area)) ≡ true) × (fit .words ≤ length (now log)) ⌝ }
+    ensures { λ r. ⌜ Builds (setupAt (fit .options) (view (now (area .entry)) (fit .shape .n))) (take (fit .words) (now (log .entry))) count (length (now (log .entry))) (length (now (area .entry))) r (now (area .exit)) × Shortens r (fit .words) (now (log .entry)) (now (log .exit)) ⌝ }
+{
+    let built = replay_log(fit, area, log, count);
+    let Replayed::Done(back) = built else {
+        return built;
+    };
+    zero_log(log, back.words, fit.words);
+    built
+}
+
+// The fit of a record, and its entries in the log. Where one is refused the log stays.
+pub fn reload(
+    area: &mut [f64],
+    log: &mut [u64],
+    input: &[u8],
+    o: Options,
+    f: record::Frame,
+) -> Replayed
+    requires { ⌜ Opens (now input) (length (now area)) o f ⌝ }
+    ensures { λ r. ⌜ Builds (setupRead (wordsIn (now (input .entry)) f)) (entriesIn (now (input .entry)) f) (f .words - f .setup) (length (now (log .entry))) (length (now (area .entry))) r (now (area .exit)) × Reloads r (now (input .entry)) f (now (log .entry)) (now (log .exit)) ⌝ }
+{
+    let built = replay_record(area, log, input, o, f);
+    let Replayed::Done(read) = built else {
+        return built;
+    };
+    copy_entries(log, input, f.at + 8 * f.setup, read.words);
+    built
 }

@@ -1,4 +1,4 @@
--- `lbfgsb::reply` meets its contract: refused, or logged and the fit advanced. Assumes nothing.
+-- `lbfgsb::reply` meets its contract: refused, or kept. Assumes nothing.
 use mathlib.Core.Path.{_≡_, refl, sym, _∙_}
 use borrow.Author.Needs.{needs}
 use borrow.Author.Tests.{not-true, not-false}
@@ -6,7 +6,7 @@ use lib.ListN.{length}
 use Rattle.driver.proofs.Laws.{ready-facts, held-ready}
 use Rattle.lbfgsb.specs.Words.{words, replied}
 use Rattle.accept.proofs.Checks.{passed, refused}
-use Rattle.lbfgsb.proofs.Answers.{said-passed, reply-unheld, reply-refused, reply-advanced}
+use Rattle.lbfgsb.proofs.Answers.{reply-unheld, reply-refused, reply-advanced}
 use Rattle.lbfgsb.proofs.reply.Statement.{statement}
 use Rattle.lbfgsb.proofs.reply.Tie as tie
 
@@ -30,33 +30,23 @@ returns-2 c =
     (sym (h .before .is-held .ensures) ∙ not-false _ (h .if1 .left))
     (refused (c .before .check .given .1) (c .before .before .before .check-reply .ensures (s .args .area .now) (s .args .gradient .now) refl))
 
-log-entry-requires : tie.Need-log-entry-requires
-log-entry-requires c κs =
-    let k = c .before in
-    let s = k .before .before .before .before .before .before .before .before .before in
-    said-passed (s .args .fit) (s .args .area .now) (s .args .log .now) (replied (s .args .said) (s .args .gradient .now))
-    (passed (k .enum-told .given .1) (k .before .before .check-reply .ensures (s .args .area .now) (s .args .gradient .now) refl)) .1
-
-advanced-requires : tie.Need-advanced-requires
-advanced-requires c κs =
-    let k = c .before .before .before .before .before in
-    let h = k .before .before .before in
+keep-requires : tie.Need-keep-requires
+keep-requires c κs =
+    let h = c .before .before .before .before .before in
     let s = h .before .before .before .before .before .before in (
       held-ready (s .args .fit) (s .args .area .now) (sym (h .before .is-held .ensures) ∙ not-false _ (h .if1 .left)),
-      said-passed (s .args .fit) (s .args .area .now) (s .args .log .now) (replied (s .args .said) (s .args .gradient .now))
-          (passed (k .enum-told .given .1) (k .before .before .check-reply .ensures (s .args .area .now) (s .args .gradient .now) refl)) .0,
+      passed (c .before .before .enum-told .given .1) (c .before .before .before .before .check-reply .ensures (s .args .area .now) (s .args .gradient .now) refl),
     )
 
 returns-3 : tie.Need-returns-3
 returns-3 c =
-    let k = c .before .before .before .before .before .before .before .before in
-    let h = k .before .before .before in
+    let h = c .before .before .before .before .before .before .before .before .before .before in
     let s = h .before .before .before .before .before .before in
-    let z : length (c .before .before .advanced .last .1 .0) ≡ length (s .args .area .now) = search needs in
-    reply-advanced (replied (s .args .said) (s .args .gradient .now)) (s .args .fit) (c .before .before .advanced .result) (s .args .area .now) _ (s .args .log .now) _
+    let k = c .before .before .before .before .keep in
+    let z : length (k .last .1 .0) ≡ length (s .args .area .now) = search needs in
+    reply-advanced (replied (s .args .said) (s .args .gradient .now)) (s .args .fit) (k .result) (s .args .area .now) _ (s .args .log .now) _
     (sym (h .before .is-held .ensures) ∙ not-false _ (h .if1 .left))
-    (passed (k .enum-told .given .1) (k .before .before .check-reply .ensures (s .args .area .now) (s .args .gradient .now) refl)) z (c .before .before .advanced .ensures)
-    (c .before .before .before .before .before .before .log-entry .ensures)
+    (passed (c .before .before .before .before .before .before .before .enum-told .given .1) (c .before .before .before .before .before .before .before .before .before .check-reply .ensures (s .args .area .now) (s .args .gradient .now) refl)) z (k .ensures .0) (k .ensures .1)
 
 pub reply-spec : {M : Type 1} → statement M
 reply-spec =
@@ -69,8 +59,7 @@ reply-spec =
     check-reply-requires
     (λ c. search needs)
     (λ c. search needs)
-    log-entry-requires
-    advanced-requires
+    keep-requires
     (λ c. search needs)
     returns-2
     (λ c. search needs)

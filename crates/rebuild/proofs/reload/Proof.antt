@@ -1,0 +1,43 @@
+-- `rebuild::reload` meets its contract. Assumes nothing.
+use mathlib.Core.Path.{refl, sym, subst}
+use Prim.Native.Nat.{_-_}
+use native.Mathlib.Omega.{arith}
+use borrow.Author.Needs.{needs}
+use lib.ListN.{length}
+use Rattle.definition.specs.Record.{setupIn}
+use Rattle.record.specs.Records.{wordsIn}
+use Rattle.replay.specs.declared.Replayed.{Replayed}
+use Rattle.rebuild.specs.Built.{entriesIn, Builds, Reloads}
+use Rattle.rebuild.proofs.Recorded.{copies-within}
+use Rattle.rebuild.proofs.reload.Statement.{statement}
+use Rattle.rebuild.proofs.reload.Tie as tie
+
+returns : tie.Need-returns
+returns c =
+    let a = c .before .before .before .before .before .before .before .before .before .before .args in
+    (c .before .before .before .before .replay-record .ensures, subst (λ (q : Replayed). Reloads q (a .input .now) (a .f) (a .log .now) (a .log .now)) (sym (c .enum-told .given .1)) refl)
+
+mul : tie.Need-mul-copy-entries
+mul c = let s = c .before .before .before .before .before .before .before .before .before .before .before .before .before in omega (arith, s .pre .whole, s .pre .placed .within, s .good .1 .1 .0)
+
+add : tie.Need-add-copy-entries
+add c = let s = c .before .before .before .before .before .before .before .before .before .before .before .before .before .before in omega (arith, s .pre .whole, s .pre .placed .within, s .good .1 .1 .0)
+
+copy-entries-requires : tie.Need-copy-entries-requires
+copy-entries-requires c κs =
+    let s = c .before .before .before .before .before .before .before .before .before .before .before .before .before .before in
+    let a = s .args in
+    let r = c .before .before .before .before .before .before .before .before .replay-record in
+    let h = subst (λ (q : Replayed). Builds (setupIn (wordsIn (a .input .now) (a .f))) (entriesIn (a .input .now) (a .f)) (a .f .words - a .f .setup) (length (a .log .now)) (length (a .area .now)) q (r .last .0)) (c .before .before .before .before .built .given .1) (r .ensures) in
+    copies-within (a .input .now) (length (a .area .now)) (a .o) (a .f) (s .pre) h
+
+returns-2 : tie.Need-returns-2
+returns-2 c =
+    let a = c .before .before .before .before .before .before .before .before .before .before .before .before .before .before .before .before .before .args in
+    let r = c .before .before .before .before .before .before .before .before .before .before .before .replay-record in
+    (subst (λ (q : Replayed). Builds (setupIn (wordsIn (a .input .now) (a .f))) (entriesIn (a .input .now) (a .f)) (a .f .words - a .f .setup) (length (a .log .now)) (length (a .area .now)) q (r .last .0)) (c .before .before .before .before .before .before .before .built .given .1) (r .ensures), c .before .before .copy-entries .ensures)
+
+pub reload-spec : {M : Type 1} → statement M
+reload-spec =
+    tie.close
+    (tie.spec (λ c κs. search needs) (λ c. search needs) (λ c. search needs) (λ c. search needs) (λ c. search needs) returns mul add copy-entries-requires (λ c. search needs) (λ c. search needs) returns-2)
