@@ -193,7 +193,7 @@ fn recorded(
 
 /// Whether the comparison speaks of this input: no bound of a setup that passes
 /// its checks is -0.0.
-fn in_domain(input: &[u8]) -> bool {
+pub fn in_domain(input: &[u8]) -> bool {
     record::read(input).map_or(true, |record| {
         let mut ends = record.setup.bounds.iter().flatten().flatten();
         ends.all(|&end| end != MINUS_ZERO)

@@ -1,33 +1,10 @@
-//! The original optimiser as the judge of its rewrite. See README.md.
+//! The oracle's commands. See README.md.
 
-mod adversary;
-mod cases;
-mod damage;
-mod entry;
-mod fit;
-mod floats;
-mod json;
-mod leaves;
-mod list;
-mod named;
-mod pairs;
-mod play;
-mod random;
-mod record;
-mod refusal;
-mod respond;
-mod setup;
-mod setups;
-mod shapes;
-mod small;
-mod summary;
-#[cfg(test)]
-mod tests;
-
-use cases::{EVERY_SIZE, Origin};
+use oracle::cases::{self, EVERY_SIZE, Origin};
+use oracle::summary::Summary;
+use oracle::{leaves, list, named, play, refusal, small};
 use std::io::{BufWriter, Read, Write};
 use std::process::ExitCode;
-use summary::Summary;
 
 const USAGE: &str = "usage: oracle COMMAND
   play                      the report of the record on standard input
