@@ -2,7 +2,7 @@
 use Prim.Native.Nat.{ℕ, _≤_}
 use native.Mathlib.Omega.{arith}
 use mathlib.Core.Path.{_≡_, ap, _∙_}
-use mathlib.Core.Bool.{true}
+use mathlib.Core.Bool.{true, false}
 use mathlib.Core.List.{List, []}
 use lib.ListN.{length, take}
 use lib.Ieee.{Float}
@@ -20,7 +20,7 @@ use Rattle.problem.specs.declared.Options.{Options}
 use Rattle.fit.specs.State.{machineOf}
 use Rattle.fit.specs.declared.Fit.{Fit}
 use Rattle.opening.specs.Opened.{setupAt, Opened}
-use Rattle.driver.specs.Replies.{marked, isReady, Marks}
+use Rattle.driver.specs.Replies.{marked, isReady, isHeld, Marks}
 use Rattle.driver.proofs.Laws.{ready-facts, held-ready, is-held, marked-machine, run-ready}
 use Rattle.driver.specs.declared.Reply.{Reply}
 use Rattle.held.specs.Words.{words, Held}
@@ -122,3 +122,9 @@ opened-reached c z h = record {
   entries = h .entries;
   words = h .words;
 }
+
+-- ---- nothing held
+
+pub no-coordinates : (t : Fit) (a : List Float) → t .shape .n ≡ 0 → isHeld t a ≡ false
+unfolding isHeld isReady
+no-coordinates t a e = rw e

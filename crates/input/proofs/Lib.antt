@@ -1,0 +1,3 @@
+pub mod Plenty
+pub mod Numbered
+pub mod Laws

@@ -1,0 +1,274 @@
+-- Every refusal has a number of document 01's table, from 1 to 19: those of a record, of an input, and of every call of a history.
+-- Assumes nothing.
+use Prim.Native.Nat.{ℕ, zero, suc, _+_, _-_, _*_, _≤_}
+use mathlib.Core.Path.{_≡_, refl, subst}
+use mathlib.Core.Bool.{Bool, true, false, not, _&&_, _||_}
+use mathlib.Core.List.{List, [], _∷_}
+use mathlib.Core.Option.{Option, none, some}
+use lib.Dec.{eqb, ltb, leb, leb→le}
+use lib.ListN.{length, getD, drop}
+use lib.Ieee as Ieee
+use lib.Ieee.{Float, isNan}
+use lib.Ieee.Scale.{finite}
+use Rattle.definition.specs.Number.{zero64, infinity, negInfinity}
+use Rattle.definition.specs.Vector.{foldTo, word}
+use Rattle.definition.specs.Problem.{Setup, Bounds, Refusal, Check, refuse, when, _then_, eachIndex, given, checkSide, checkPair, checkBounds, checkProblem, positive, finitePositive, finiteNonnegative, checkCommon, checkOptions, mostCoordinates, mostPairs, mostBudget, atMost, checkLimits, validate, dimension, areaNeeded}
+use Rattle.definition.specs.Machine.{Reply, Machine, Question, takes, checkLength, checkDue, question, unreported}
+use Rattle.definition.specs.Driver.{run, begin}
+use Rattle.definition.specs.Log.{entryWords, logWords, entryOf, Entries, admitDue, admit, nextEntry, readEntries, entriesOf}
+use Rattle.definition.specs.Record.{Lengths, Reading, setupIn, setupLength, wordsOf, recordWords, readingOf, checkArea, sameSums, malformed, checkWords, unlessRefused, readWords, framed, readRecord}
+use Rattle.definition.specs.History.{Call, Answer, History, logShort, outputShort, checkQuestion, entryAt, refusal, answerUnless, restoredAnswer, historyAnswer}
+use Rattle.definition.specs.Programs.{mostBytes, plenty, readInput}
+use Rattle.definition.proofs.Tests.{by-test, both-hold}
+
+-- a number of the table
+abbrev pub InTable : ℕ → Type 0
+InTable number = (1 ≤ number) × (number ≤ 19)
+
+-- ---- checks
+
+abbrev Numbered : Check → Type 0
+Numbered none = Unit {0}
+Numbered (some r) = InTable (r .number)
+
+in-table : (number : ℕ) → leb 1 number && leb number 19 ≡ true → InTable number
+in-table number e = let h = both-hold (leb 1 number) (leb number 19) e in (leb→le 1 number (h .0), leb→le number 19 (h .1))
+
+tested : (t : Bool) (number a b : ℕ) → leb 1 number && leb number 19 ≡ true → Numbered (when t (refuse number a b))
+tested true number a b e = in-table number e
+tested false number a b e = tt
+
+both : (a b : Check) → Numbered a → Numbered b → Numbered (a then b)
+both none b h k = k
+both (some r) b h k = h
+
+each : (n : ℕ) (check : ℕ → Check) → ((i : ℕ) → Numbered (check i)) → Numbered (eachIndex n check)
+unfolding foldTo
+each zero check h = tt
+each (suc n) check h = both (eachIndex n check) (check n) (each n check h) (h n)
+
+if-given : {A : Type 0} (check : A → Check) (o : Option A) → ((a : A) → Numbered (check a)) → Numbered (given check o)
+if-given check none h = tt
+if-given check (some a) h = h a
+
+-- ---- a setup
+
+side : (n : ℕ) (s : List Float) → Numbered (checkSide n s)
+side n s =
+    let test : ℕ → Check = λ i. when (isNan (word s i)) (refuse 4 i 0) in
+    both (when (not (eqb (length s) n)) (refuse 3 n (length s))) (eachIndex n test) (tested (not (eqb (length s) n)) 3 n (length s) refl)
+    (each n test (λ i. tested (isNan (word s i)) 4 i 0 refl))
+
+pair : (b : Bounds) (i : ℕ) → Numbered (checkPair b i)
+pair b i =
+    let turned = Ieee.lt (word (b .upper) i) (word (b .lower) i) in
+    let empty = Ieee.eq (word (b .lower) i) infinity || Ieee.eq (word (b .upper) i) negInfinity in
+    both (when turned (refuse 5 i 0)) (when empty (refuse 6 i 0)) (tested turned 5 i 0 refl) (tested empty 6 i 0 refl)
+
+bounds : (n : ℕ) (b : Bounds) → Numbered (checkBounds n b)
+bounds n b =
+    both (checkSide n (b .lower)) (checkSide n (b .upper) then eachIndex n (checkPair b)) (side n (b .lower))
+    (both (checkSide n (b .upper)) (eachIndex n (checkPair b)) (side n (b .upper)) (each n (checkPair b) (pair b)))
+
+problem : (s : Setup) → Numbered (checkProblem s)
+unfolding checkProblem
+problem s =
+    let n = length (s .x0) in
+    let test : ℕ → Check = λ i. when (not (finite (word (s .x0) i))) (refuse 2 i 0) in
+    both (when (eqb n 0) (refuse 1 0 0)) (eachIndex n test then given (checkBounds n) (s .bounds)) (tested (eqb n 0) 1 0 0 refl)
+    (both (eachIndex n test) (given (checkBounds n) (s .bounds)) (each n test (λ i. tested (not (finite (word (s .x0) i))) 2 i 0 refl))
+    (if-given (checkBounds n) (s .bounds) (bounds n)))
+
+count : (option : ℕ) (o : Option ℕ) → Numbered (given (positive option) o)
+count option o = if-given (positive option) o (λ k. tested (eqb k 0) 7 option 0 refl)
+
+above : (option : ℕ) (o : Option Float) → Numbered (given (finitePositive option) o)
+above option o = if-given (finitePositive option) o (λ v. tested (not (finite v) || Ieee.le v zero64) 8 option 0 refl)
+
+not-below : (option : ℕ) (o : Option Float) → Numbered (given (finiteNonnegative option) o)
+not-below option o = if-given (finiteNonnegative option) o (λ v. tested (not (finite v) || Ieee.lt v zero64) 9 option 0 refl)
+
+limit : (most detail k : ℕ) → Numbered (atMost most detail k)
+limit most detail k = tested (ltb most k) 10 detail 0 refl
+
+limited : (most detail : ℕ) (o : Option ℕ) → Numbered (given (atMost most detail) o)
+limited most detail o = if-given (atMost most detail) o (limit most detail)
+
+setup : (s : Setup) → Numbered (validate s)
+unfolding validate checkCommon checkOptions checkLimits
+setup s =
+    let common =
+    both (given (positive 1) (s .maxiter)) (given (positive 2) (s .maxfev) then given (finitePositive 1) (s .tol)) (count 1 (s .maxiter))
+    (both (given (positive 2) (s .maxfev)) (given (finitePositive 1) (s .tol)) (count 2 (s .maxfev)) (above 1 (s .tol))) in
+    let last = both (given (positive 3) (s .maxcor)) (given (finitePositive 2) (s .eps)) (count 3 (s .maxcor)) (above 2 (s .eps)) in
+    let options =
+    both (given (finiteNonnegative 1) (s .ftol)) (given (finiteNonnegative 2) (s .gtol) then given (positive 3) (s .maxcor) then given (finitePositive 2) (s .eps)) (not-below 1 (s .ftol))
+    (both (given (finiteNonnegative 2) (s .gtol)) (given (positive 3) (s .maxcor) then given (finitePositive 2) (s .eps)) (not-below 2 (s .gtol)) last) in
+    let budgets = both (given (atMost mostBudget 3) (s .maxiter)) (given (atMost mostBudget 4) (s .maxfev)) (limited mostBudget 3 (s .maxiter)) (limited mostBudget 4 (s .maxfev)) in
+    let limits =
+    both (atMost mostCoordinates 1 (length (s .x0))) (given (atMost mostPairs 2) (s .maxcor) then given (atMost mostBudget 3) (s .maxiter) then given (atMost mostBudget 4) (s .maxfev)) (limit mostCoordinates 1 (length (s .x0)))
+    (both (given (atMost mostPairs 2) (s .maxcor)) (given (atMost mostBudget 3) (s .maxiter) then given (atMost mostBudget 4) (s .maxfev)) (limited mostPairs 2 (s .maxcor)) budgets) in
+    both (checkProblem s) (checkCommon s then checkOptions s then checkLimits s) (problem s)
+    (both (checkCommon s) (checkOptions s then checkLimits s) common (both (checkOptions s) (checkLimits s) options limits))
+
+opening : (z : Lengths) (s : Setup) → Numbered (validate s then checkArea z s)
+opening z s = both (validate s) (checkArea z s) (setup s) (tested (ltb (z .area) (areaNeeded s)) 11 (areaNeeded s) 0 refl)
+
+-- ---- a record
+
+abbrev Entered : Entries → Type 0
+Entered (Entries.kept rs) = Unit {0}
+Entered (Entries.refusedAt c) = InTable c
+Entered (Entries.going ws rs m) = Unit {0}
+
+entry-due : (room : ℕ) (ws : List ℕ) (rs : List Reply) (m : Machine) (r : Reply) (c : Check) → Entered (admitDue room ws rs m r c)
+entry-due room ws rs m r (some c) = in-table 17 refl
+entry-due room ws rs m r none =
+    by-test Entered (ltb room (length (logWords rs) + length (entryWords r))) (λ _. in-table 12 refl) (λ _. tt)
+
+entry-next : (room : ℕ) (ws : List ℕ) (rs : List Reply) (m : Machine) → Entered (nextEntry room ws rs m)
+entry-next room [] rs m = tt
+entry-next room (k ∷ ws) rs m = go (entryOf (m .terms .n) k ws)
+  where
+    go : (o : Option Reply) → Entered (admit room ws rs m o)
+    go none = in-table 17 refl
+    go (some r) = entry-due room ws rs m r (checkDue m r)
+
+entries : (left room : ℕ) (e : Entries) → Entered e → Entered (readEntries left room e)
+unfolding readEntries
+entries zero room (Entries.kept rs) h = tt
+entries zero room (Entries.refusedAt c) h = h
+entries zero room (Entries.going ws rs m) h = in-table 17 refl
+entries (suc left) room (Entries.kept rs) h = tt
+entries (suc left) room (Entries.refusedAt c) h = h
+entries (suc left) room (Entries.going ws rs m) h = entries left room (nextEntry room ws rs m) (entry-next room ws rs m)
+
+abbrev pub ReadNumbered : Reading → Type 0
+ReadNumbered (Reading.accepted s rs) = Unit {0}
+ReadNumbered (Reading.refused c) = InTable (c .number)
+ReadNumbered (Reading.refusedAtEntry c) = InTable (c .number)
+
+unless : (c : Check) (r : Reading) → Numbered c → ReadNumbered r → ReadNumbered (unlessRefused c r)
+unless none r h k = k
+unless (some c) r h k = h
+
+reading : (s : Setup) (e : Entries) → Entered e → ReadNumbered (readingOf s e)
+reading s (Entries.kept rs) h = tt
+reading s (Entries.refusedAt c) h = h
+reading s (Entries.going ws rs m) h = in-table 17 refl
+
+read-words : (z : Lengths) (ws : List ℕ) (p q : ℕ) → ReadNumbered (readWords z ws p q)
+unfolding readWords checkWords
+read-words z ws p q =
+    let s = setupIn ws in
+    let rest = drop (setupLength (getD ws 0 0)) ws in
+    let form = both (when (malformed ws) (refuse 17 0 0)) (validate s then checkArea z s) (tested (malformed ws) 17 0 0 refl) (opening z s) in
+    let checks =
+    both (when (not (sameSums ws p q)) (refuse 18 0 0)) (when (malformed ws) (refuse 17 0 0) then validate s then checkArea z s)
+    (tested (not (sameSums ws p q)) 18 0 0 refl) form in
+    unless (checkWords z ws p q) (readingOf s (entriesOf s (z .log) rest)) checks
+    (reading s (entriesOf s (z .log) rest) (entries (length rest + 1) (z .log) (Entries.going rest [] (begin s)) tt))
+
+pub record-numbered : (z : Lengths) (bs : List ℕ) → ReadNumbered (readRecord z bs)
+unfolding readRecord
+record-numbered z bs =
+    let t = wordsOf 4 (drop (length bs - 32) bs) in
+    by-test ReadNumbered (ltb (length bs) 32) (λ _. in-table 17 refl) (λ _.
+    by-test ReadNumbered (framed (length bs) t) (λ _. read-words z _ (getD t 0 0) (getD t 1 0)) (λ _. in-table 17 refl))
+
+pub input-numbered : (bs : List ℕ) → ReadNumbered (readInput bs)
+unfolding readInput
+input-numbered bs = by-test ReadNumbered (ltb mostBytes (length bs)) (λ _. in-table 17 refl) (λ _. record-numbered plenty bs)
+
+-- ---- every call
+
+due : (m : Machine) (r : Reply) → Numbered (checkDue m r)
+due m r = both (when (not (takes m r)) (refuse 13 0 0)) (checkLength (m .terms .n) r) (tested (not (takes m r)) 13 0 0 refl) (sized (m .terms .n) r)
+  where
+    sized : (n : ℕ) (r : Reply) → Numbered (checkLength n r)
+    sized n (Reply.value v) = tt
+    sized n (Reply.gradient ws) = tested (not (eqb (length ws) n)) 14 n (length ws) refl
+    sized n Reply.notSupplied = tt
+    sized n Reply.goOn = tt
+    sized n Reply.stop = tt
+    sized n Reply.failure = tt
+
+short : (room needed : ℕ) → Numbered (outputShort room needed)
+short room needed = tested (ltb room needed) 19 needed 0 refl
+
+cut : (z : Lengths) (rs : List Reply) → Numbered (logShort z rs)
+cut z rs = tested (ltb (z .log) (length (logWords rs))) 12 0 0 refl
+
+asks : (s : Setup) (room : ℕ) (q : Option Question) → Numbered (checkQuestion s room q)
+asks s room none = tt
+asks s room (some q) = short room (dimension s)
+
+call : (z : Lengths) (h : History) (c : Call) → Numbered (refusal z h c)
+call z h (Call.start s) = opening z s
+call z h (Call.restore bs) = tt
+call z History.empty (Call.reply r) = in-table 13 refl
+call z (History.fit s rs) (Call.reply r) =
+    let full = ltb (z .log) (length (logWords rs) + length (entryWords r)) in
+    both (checkDue (run s rs) r) (when full (refuse 12 0 0)) (due (run s rs) r) (tested full 12 0 0 refl)
+call z History.empty (Call.takeBack j) = tested (ltb 0 j) 16 0 0 refl
+call z (History.fit s rs) (Call.takeBack j) = both (when (ltb (length rs) j) (refuse 16 0 0)) (logShort z rs) (tested (ltb (length rs) j) 16 0 0 refl) (cut z rs)
+call z History.empty (Call.question room) = tt
+call z (History.fit s rs) (Call.question room) = asks s room (question (run s rs))
+call z History.empty (Call.report room) = in-table 15 refl
+call z (History.fit s rs) (Call.report room) =
+    let none = unreported (run s rs .phase) in
+    both (when none (refuse 15 0 0)) (outputShort room (dimension s)) (tested none 15 0 0 refl) (short room (dimension s))
+call z h Call.replies = tt
+call z History.empty (Call.entry k room) = tt
+call z (History.fit s rs) (Call.entry k room) = both (logShort z rs) (outputShort room (length (entryAt rs k))) (cut z rs) (short room (length (entryAt rs k)))
+call z History.empty (Call.save room) = tt
+call z (History.fit s rs) (Call.save room) =
+    let needed = 8 * length (recordWords s rs) in
+    both (logShort z rs) (outputShort room needed) (cut z rs) (short room needed)
+
+abbrev AnswerNumbered : Answer → Type 0
+AnswerNumbered (Answer.refused r) = InTable (r .number)
+AnswerNumbered Answer.done = Unit {0}
+AnswerNumbered (Answer.asked q) = Unit {0}
+AnswerNumbered (Answer.reported r) = Unit {0}
+AnswerNumbered (Answer.counted k) = Unit {0}
+AnswerNumbered (Answer.entered ws) = Unit {0}
+AnswerNumbered (Answer.saved bs) = Unit {0}
+
+answered : (o : Check) (h : History) (c : Call) → Numbered o → AnswerNumbered (answerUnless o h c)
+answered (some r) h c k = k
+answered none h (Call.start s) k = tt
+answered none h (Call.restore bs) k = tt
+answered none h (Call.reply r) k = tt
+answered none h (Call.takeBack j) k = tt
+answered none History.empty (Call.question room) k = tt
+answered none (History.fit s rs) (Call.question room) k = tt
+answered none History.empty (Call.report room) k = in-table 15 refl
+answered none (History.fit s rs) (Call.report room) k = tt
+answered none History.empty Call.replies k = tt
+answered none (History.fit s rs) Call.replies k = tt
+answered none History.empty (Call.entry i room) k = tt
+answered none (History.fit s rs) (Call.entry i room) k = tt
+answered none History.empty (Call.save room) k = tt
+answered none (History.fit s rs) (Call.save room) k = tt
+
+restores : (r : Reading) → ReadNumbered r → AnswerNumbered (restoredAnswer r)
+restores (Reading.accepted s rs) h = tt
+restores (Reading.refused c) h = h
+restores (Reading.refusedAtEntry c) h = h
+
+answer-numbered : (z : Lengths) (h : History) (c : Call) → AnswerNumbered (historyAnswer z h c)
+answer-numbered z h (Call.start s) = answered (refusal z h (Call.start s)) h (Call.start s) (call z h (Call.start s))
+answer-numbered z h (Call.restore bs) = restores (readRecord z bs) (record-numbered z bs)
+answer-numbered z h (Call.reply r) = answered (refusal z h (Call.reply r)) h (Call.reply r) (call z h (Call.reply r))
+answer-numbered z h (Call.takeBack j) = answered (refusal z h (Call.takeBack j)) h (Call.takeBack j) (call z h (Call.takeBack j))
+answer-numbered z h (Call.question room) = answered (refusal z h (Call.question room)) h (Call.question room) (call z h (Call.question room))
+answer-numbered z h (Call.report room) = answered (refusal z h (Call.report room)) h (Call.report room) (call z h (Call.report room))
+answer-numbered z h Call.replies = answered (refusal z h Call.replies) h Call.replies (call z h Call.replies)
+answer-numbered z h (Call.entry k room) = answered (refusal z h (Call.entry k room)) h (Call.entry k room) (call z h (Call.entry k room))
+answer-numbered z h (Call.save room) = answered (refusal z h (Call.save room)) h (Call.save room) (call z h (Call.save room))
+
+-- ---- the theorem
+
+pub refusals-numbered : (z : Lengths) (h : History) (c : Call) (r : Refusal) → historyAnswer z h c ≡ Answer.refused r → (1 ≤ r .number) × (r .number ≤ 19)
+refusals-numbered z h c r e = subst AnswerNumbered e (answer-numbered z h c)
