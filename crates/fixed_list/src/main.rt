@@ -1,21 +1,11 @@
 // Replays the fixed list of the Rust's answers through the exported operations and compares every bit. The first argument names the file;
 // `oracle/list/README.md` has its format. One area and one log serve all cases, so each starts on what the last left.
-use compact::Shape;
-use counters::Counters;
 use fit::Fit;
-use fit::Phase;
 use lbfgsb::Answer;
 use lbfgsb::Asked;
 use lbfgsb::Told;
 use libc::STDOUT_FILENO;
-use problem::Limits;
-use problem::MaybeCount;
-use problem::MaybeFloat;
-use problem::Options;
-use problem::Scheme;
 use question::Outcome;
-use search::Search;
-use search::Trials;
 
 // The most bytes that an input may have, and the bytes of the words that hold one more.
 const MOST: usize = 65_536;
@@ -60,78 +50,6 @@ enum Verdict {
     Fit(u64),
     Different,
     Lost,
-}
-
-// ---- the state before a case
-
-fn options() -> Options {
-    Options {
-        bounded: false,
-        maxiter: MaybeCount::Absent,
-        maxfev: MaybeCount::Absent,
-        tol: MaybeFloat::Absent,
-        ftol: MaybeFloat::Absent,
-        gtol: MaybeFloat::Absent,
-        maxcor: MaybeCount::Absent,
-        eps: MaybeFloat::Absent,
-        scheme: Scheme::Forward,
-    }
-}
-
-fn limits() -> Limits {
-    Limits {
-        ftol: 0.0,
-        gtol: 0.0,
-        maxiter: 0,
-        maxfev: 0,
-    }
-}
-
-fn search() -> Search {
-    Search {
-        alpha: 0.0,
-        low: 0.0,
-        high: 0.0,
-        slope0: 0.0,
-        amax: 0.0,
-    }
-}
-
-// A state of zeros: no fit is held.
-fn no_fit() -> Fit {
-    let shape = Shape {
-        n: 0,
-        m: 0,
-        pairs: 0,
-        oldest: 0,
-    };
-    let counters = Counters {
-        nit: 0,
-        nfev: 0,
-        njev: 0,
-        drawn: 0,
-    };
-    let trials = Trials {
-        count: 0,
-        face: false,
-        bracketed: false,
-    };
-    Fit {
-        shape: shape,
-        options: options(),
-        limits: limits(),
-        counters: counters,
-        phase: Phase::Notice,
-        search: search(),
-        trials: trials,
-        value: 0.0,
-        trial: 0.0,
-        right: 0.0,
-        before: 0.0,
-        theta: 0.0,
-        entries: 0,
-        words: 0,
-    }
 }
 
 // ---- words
@@ -448,7 +366,7 @@ fn refused(number: usize, refusal: u64) -> Verdict {
 
 // Restores the input, where the list has this refusal, 0 for none.
 fn restored(fd: i32, input: &[u8], area: &mut [f64], log: &mut [u64], refusal: u64) -> Verdict {
-    let answer = lbfgsb::restore(no_fit(), area, log, input);
+    let answer = lbfgsb::restore(held::empty(), area, log, input);
     match answer {
         Answer::Refused(c) => refused(c.number, refusal),
         Answer::Kept(f) => accepted(fd, f, area, log, refusal),
