@@ -68,7 +68,10 @@ pub fn start(
     let check = accept::check_start(o, x0, lower, upper, area.len());
     match check {
         Checked::Refused(c) => Answer::Refused(c),
-        Checked::Passed => Answer::Kept(accept::opened(o, area, x0, lower, upper)),
+        Checked::Passed => {
+            let f = accept::opened(o, area, x0, lower, upper);
+            Answer::Kept(f)
+        }
     }
 }
 
