@@ -1,9 +1,10 @@
 // `solve`: Gauss elimination with the pivots of the definition, on a matrix taken by value. One function for each definition.
 ghost use mathlib.Core.Path.{_≡_};
-ghost use mathlib.Core.Bool.{cond};
+ghost use mathlib.Core.Bool.{cond, false};
 ghost use mathlib.Core.Option.{some};
 ghost use Prim.Native.Nat.{_+_, _-_, _≤_, _<_};
-ghost use Rattle.definition.specs.Number.{times, abs as absOf, max as maxOf, magnitudeLe};
+ghost use lib.Ieee.{isNan};
+ghost use Rattle.definition.specs.Number.{times, abs as absOf, max as maxOf, toWord, magnitudeLe};
 ghost use Rattle.definition.specs.Vector.{foldTo, word, sum as sumOf, allFinite};
 ghost use Rattle.definition.specs.Solve.{entry, scaleOf, pivotOf, system, swapped, lessRow, lessPivot, eliminated, pivots as pivotsOf};
 ghost use Rattle.definition.specs.Solve.{column as columnOf, triangular as triangularOf, backRow, backward as backwardOf, solvedFrom, solvable as solvableOf, solve as solveOf};
@@ -15,15 +16,24 @@ pub struct Answer {
     pub x: [f64; 32],
 }
 
+// The larger of m and the magnitude of x, where m is not a NaN: one comparison.
+fn raised(m: f64, x: f64) -> f64
+    requires { ⌜ isNan m ≡ false ⌝ }
+    ensures { λ r. ⌜ (isNan r ≡ false) × (r ≡ maxOf m (absOf x)) ⌝ }
+{
+    let y = float::abs(x);
+    if m < y { y } else { m }
+}
+
 // The largest of most and the magnitudes of row i.
 fn row_scale(a: &[[f64; 32]; 32], n: usize, i: usize, most: f64) -> f64
-    requires { ⌜ (i < n) × (n ≤ 32) ⌝ }
-    ensures { λ r. ⌜ r ≡ foldTo n (λ j m. maxOf m (absOf (entry (now (a .entry)) i j))) most ⌝ }
+    requires { ⌜ (i < n) × (n ≤ 32) × (isNan most ≡ false) ⌝ }
+    ensures { λ r. ⌜ (isNan r ≡ false) × (r ≡ foldTo n (λ j m. maxOf m (absOf (entry (now (a .entry)) i j))) most) ⌝ }
 {
     let mut m = most;
     let mut j = 0;
     while j < n {
-        m = float::max(m, float::abs(a[i][j]));
+        m = raised(m, a[i][j]);
         j += 1;
     }
     m
@@ -43,14 +53,22 @@ fn scale(a: &[[f64; 32]; 32], n: usize) -> f64
     most
 }
 
+// A row, and the word of the magnitude of its entry in the column.
+struct Best {
+    row: usize,
+    size: u64,
+}
+
 // Of rows best and i the one with the larger entry in column k, and row i where they are level.
-fn larger(a: &[[f64; 32]; 32], k: usize, best: usize, i: usize) -> usize
-    requires { ⌜ (k < 32) × (best < 32) × (i < 32) ⌝ }
-    ensures { λ r. ⌜ r ≡ cond (magnitudeLe (entry (now (a .entry)) best k) (entry (now (a .entry)) i k)) i best ⌝ }
+fn larger(a: &[[f64; 32]; 32], k: usize, best: Best, i: usize) -> Best
+    requires { ⌜ (k < 32) × (i < 32) × (best .size ≡ toWord (absOf (entry (now a) (best .row) k))) ⌝ }
+    ensures { λ r. ⌜ (r .row ≡ cond (magnitudeLe (entry (now (a .entry)) (best .row) k) (entry (now (a .entry)) i k)) i (best .row)) × (r .size ≡ toWord (absOf (entry (now (a .entry)) (r .row) k))) ⌝ }
 {
-    let x = a[best][k];
-    let y = a[i][k];
-    if float::magnitude_le(x, y) { i } else { best }
+    let size = float::float_to_word(float::abs(a[i][k]));
+    if best.size <= size {
+        return Best { row: i, size: size };
+    }
+    best
 }
 
 // Among rows k to n - 1 the last with the largest entry in column k.
@@ -59,13 +77,14 @@ fn pivot(a: &[[f64; 32]; 32], n: usize, k: usize) -> usize
     ensures { λ r. ⌜ (r < n) × (r ≡ pivotOf n (now (a .entry)) k) ⌝ }
 {
     let rows = n - (k + 1);
-    let mut best = k;
+    let size = float::float_to_word(float::abs(a[k][k]));
+    let mut best = Best { row: k, size: size };
     let mut d = 0;
     while d < rows {
         best = larger(a, k, best, k + 1 + d);
         d += 1;
     }
-    best
+    best.row
 }
 
 // Rows k and p change places, and so do their right sides.

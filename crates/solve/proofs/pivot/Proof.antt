@@ -1,9 +1,10 @@
--- `solve::pivot` meets its contract; in its loop best is the pivot among row k and the d rows below it. Assumes nothing.
-use Prim.Native.Nat.{ℕ, _-_, _+_, _<_}
+-- `solve::pivot` meets its contract; in its loop best is the pivot among row k and the d rows below it, with its magnitude's word. Assumes nothing.
+use mathlib.Core.Path.{_≡_, _∙_, ap}
 use mathlib.Core.Bool.{Bool, true, false, cond}
+use Prim.Native.Nat.{ℕ, _-_, _+_, _<_}
 use native.Mathlib.Omega.{arith}
 use denote.Ref.{now}
-use Rattle.definition.specs.Number.{magnitudeLe}
+use Rattle.definition.specs.Number.{abs, toWord, magnitudeLe}
 use Rattle.definition.specs.Solve.{entry, pivotOf}
 use Rattle.area.proofs.Laws.{Looped, looped-none, looped-more, looped-done, laws}
 use Rattle.solve.proofs.pivot.Statement.{statement}
@@ -14,25 +15,27 @@ one-below true h l = h
 one-below false h l = l
 
 abbrev Inv-loop : tie.InvT-loop
-Inv-loop a n k rows best₀ d₀ best d = (best < n) × Looped (n - (k + 1)) (λ d best. cond (magnitudeLe (entry a best k) (entry a (k + 1 + d) k)) (k + 1 + d) best) k best d
+Inv-loop a n k rows size best₀ d₀ best d =
+    (best .row < n) × (best .size ≡ toWord (abs (entry a (best .row) k)))
+    × Looped (n - (k + 1)) (λ d best. cond (magnitudeLe (entry a best k) (entry a (k + 1 + d) k)) (k + 1 + d) best) k (best .row) d
 
 abbrev μ-loop : tie.MeasureT-loop
-μ-loop a n k rows best₀ d₀ best d = rows - d
+μ-loop a n k rows size best₀ d₀ best d = rows - d
 
 loop-holds : tie.Need-loop-holds Inv-loop μ-loop
-loop-holds c = (omega arith, looped-none)
+loop-holds c = (omega arith, c .float-to-word .ensures ∙ ap toWord (c .before .abs .ensures), looped-none)
 
 loop-again : tie.Need-loop-again Inv-loop μ-loop
 loop-again c =
     let l = c .before .before in
-    let a = l .before .args in
+    let a = l .before .before .before .before .args in
     let i = a .k + 1 + l .loop .d in
-    let t = magnitudeLe (entry (now (a .a)) (l .loop .best) (a .k)) (entry (now (a .a)) i (a .k)) in
-    (rw (c .larger .ensures) (one-below t {i = i} (omega arith) (l .loop .inv .0)), looped-more (l .loop .inv .1) (omega arith) (c .larger .ensures))
+    let t = magnitudeLe (entry (now (a .a)) (l .loop .best .row) (a .k)) (entry (now (a .a)) i (a .k)) in
+    (rw (c .larger .ensures .0) (one-below t {i = i} (omega arith) (l .loop .inv .0)), c .larger .ensures .1, looped-more (l .loop .inv .2) (omega arith) (c .larger .ensures .0))
 
 returns : tie.Need-returns Inv-loop μ-loop
 unfolding pivotOf
-returns c = (omega arith, looped-done (c .before .loop .inv .1) (omega arith))
+returns c = (omega arith, looped-done (c .before .loop .inv .2) (omega arith))
 
 pub pivot-spec : {M : Type 1} → statement M
 pivot-spec =
@@ -42,6 +45,12 @@ pivot-spec =
     μ-loop
     (λ c. search laws)
     (λ c. search laws)
+    (λ c. search laws)
+    (λ c. search laws)
+    (λ c. search laws)
+    (λ c. search laws)
+    (λ c κs. search laws)
+    (λ c κs. search laws)
     loop-holds
     (λ c. search laws)
     (λ c. search laws)
