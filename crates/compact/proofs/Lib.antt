@@ -1,4 +1,5 @@
 pub mod Columns
 pub mod Laws
+pub mod Mirror
 pub mod Models
 pub mod Ring

@@ -5,7 +5,7 @@ use mathlib.Core.Bool.{Bool, cond}
 use mathlib.Core.List.{List}
 use lib.Dec.{ltb}
 use lib.Ieee.{Float}
-use Rattle.definition.specs.Number.{times, minus}
+use Rattle.definition.specs.Number.{times, minus, zero64}
 use Rattle.definition.specs.Vector.{tab, foldTo, word}
 use Rattle.definition.specs.Solve.{Matrix}
 use Rattle.definition.specs.Compact as C
@@ -86,6 +86,10 @@ pub record Laid (h : Shape) (theta : Float) (v : Vecs) : Type 0 where
 -- every vector below the columns is as it was
 abbrev pub PairsKept : Shape → Vecs → Vecs → Type 0
 PairsKept h a b = (q : ℕ) → q < 16 + 2 * h .m → b q ≡ a q
+
+-- the first k rows of the block, in an array of 32
+abbrev pub blockTo : Shape → Float → Vecs → ℕ → Matrix
+blockTo h theta v k = C.padded C.zeroRow k (λ (i : ℕ). C.padded zero64 (2 * h .pairs) (C.blockEntry (h .n) (compactOf h theta v) i))
 
 -- what a model is built from: the columns laid out, and the block of the pairs
 pub record Modelled (h : Shape) (theta : Float) (b : Matrix) (v : Vecs) : Type 0 where

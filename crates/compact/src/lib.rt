@@ -9,7 +9,7 @@ ghost use Rattle.definition.specs.Compact.{curved as curvedOf, usable as usable
 ghost use Rattle.definition.specs.Compact.{wrap, padded, zeroRow, block as blockOf, rightSide, weights as weightsOf};
 ghost use Rattle.area.specs.Area.{view, upd, rowwise};
 ghost use Rattle.solve.specs.Answers.{answerOf};
-ghost use Rattle.compact.specs.State.{pairsOf, compactOf, columnSlot, Sound, Slot, pushedShape, Pushed, Laid, PairsKept, Modelled, Multiplied, lessTo};
+ghost use Rattle.compact.specs.State.{pairsOf, compactOf, columnSlot, blockTo, Sound, Slot, pushedShape, Pushed, Laid, PairsKept, Modelled, Multiplied, lessTo};
 
 // What the places of the pairs rest on: n coordinates, m places, how many are used, and which is the oldest.
 pub struct Shape {
@@ -152,20 +152,21 @@ fn lower(area: &[f64], h: Shape, i: usize, j: usize) -> f64
     0.0
 }
 
-// An entry of the block [-D, L'; L, theta S'S], by the row's half and the column's.
-fn block_entry(area: &[f64], h: Shape, theta: f64, i: usize, j: usize) -> f64
-    requires { ⌜ Sound h (length (now area)) × (i < 2 * h .pairs) × (j < 2 * h .pairs) ⌝ }
+// Entry i, j of the block [-D, L'; L, theta S'S], by the row's half and the column's. The block is symmetric: below the diagonal
+// the entry is taken from the rows above, which stand in b.
+fn block_entry(area: &[f64], h: Shape, theta: f64, b: &[[f64; 32]; 32], i: usize, j: usize) -> f64
+    requires { ⌜ Sound h (length (now area)) × (i < 2 * h .pairs) × (j < 2 * h .pairs) × (now b ≡ blockTo h theta (view (now area) (h .n)) i) ⌝ }
     ensures { λ r. ⌜ r ≡ blockEntry (h .n) (compactOf h theta (view (now (area .entry)) (h .n))) i j ⌝ }
 {
+    if j < i {
+        return b[j][i];
+    }
     let m = h.pairs;
     if i < m {
         if j < m {
             return diagonal(area, h, i, j);
         }
         return lower(area, h, j - m, i);
-    }
-    if j < m {
-        return lower(area, h, i - m, j);
     }
     theta * s_dot_s(area, h, i - m, j - m)
 }
@@ -185,16 +186,16 @@ pub fn zero_rows() -> [[f64; 32]; 32]
     [z; 32]
 }
 
-// Row i of the block, in an array of 32.
-fn block_row(area: &[f64], h: Shape, theta: f64, i: usize) -> [f64; 32]
-    requires { ⌜ Sound h (length (now area)) × (i < 2 * h .pairs) ⌝ }
+// Row i of the block, in an array of 32; the rows above stand in b.
+fn block_row(area: &[f64], h: Shape, theta: f64, b: &[[f64; 32]; 32], i: usize) -> [f64; 32]
+    requires { ⌜ Sound h (length (now area)) × (i < 2 * h .pairs) × (now b ≡ blockTo h theta (view (now area) (h .n)) i) ⌝ }
     ensures { λ r. ⌜ r ≡ padded zero64 (2 * h .pairs) (blockEntry (h .n) (compactOf h theta (view (now (area .entry)) (h .n))) i) ⌝ }
 {
     let size = 2 * h.pairs;
     let mut r = zeros();
     let mut j = 0;
     while j < size {
-        r[j] = block_entry(area, h, theta, i, j);
+        r[j] = block_entry(area, h, theta, b, i, j);
         j += 1;
     }
     r
@@ -209,7 +210,7 @@ pub fn block(area: &[f64], h: Shape, theta: f64) -> [[f64; 32]; 32]
     let mut b = zero_rows();
     let mut i = 0;
     while i < size {
-        let r = block_row(area, h, theta, i);
+        let r = block_row(area, h, theta, &b, i);
         b[i] = r;
         i += 1;
     }
