@@ -9,7 +9,7 @@ ghost use Rattle.definition.specs.Vector.{dot as dotOf};
 ghost use Rattle.definition.specs.Geometry.{noBreak, stopped, stopAll, passed, generalizedCauchy};
 ghost use Rattle.definition.specs.Geometry.{along as alongOf, bySlope, still as stillOf, segment as segmentOf};
 ghost use Rattle.area.specs.Area.{view, wordsAt, rowwise, X, G, Velocity, ProductZ, Cauchy};
-ghost use Rattle.compact.specs.State.{Sound, Modelled, compactOf};
+ghost use Rattle.compact.specs.State.{Sound, Prepared, compactOf};
 ghost use Rattle.cauchy.specs.State.{boundsOf, noBreakTime, sift, breakList, Listed, Ordered, Inserted, Kept, Found};
 ghost use Rattle.cauchy.specs.State.{movesUpIn, movesDownIn, velocityIn, breakTimeIn, boundIn, pointIn, pathOf, travelledOf, Travels, Begins, Points, PathPoint, Segments};
 
@@ -432,20 +432,43 @@ fn segment_from(
     area: &mut [f64],
     h: compact::Shape,
     theta: f64,
-    block: [[f64; 32]; 32],
+    found: bool,
+    rows: &[[f64; 32]; 32],
+    multipliers: &[[f64; 32]; 32],
+    order: &[usize; 32],
     b: Breaks,
     p: Path,
 ) -> Segment
-    requires { ⌜ Sound h (length (now area)) × Modelled h theta block (view (now area) (h .n)) × Listed (h .n) b ⌝ }
+    requires { ⌜ Sound h (length (now area)) × Prepared h theta found (now rows) (now multipliers) (now order) (view (now area) (h .n)) × Listed (h .n) b ⌝ }
     ensures { λ r. ⌜ (let v = view (now (area .entry)) (h .n) in Segments (segmentOf (h .n) (boundsOf v) (compactOf h theta v) (v X) (v G) (breakList b) (pathOf p v)) v r (view (now (area .exit)) (h .n))) ⌝ }
 {
     if still(area, h.n) {
         return Segment::Ended(point_on_path(area, h.n));
     }
-    if !compact::product(area, h, theta, block, area::PRODUCT_D, area::VELOCITY) {
+    if !compact::product(
+        area,
+        h,
+        theta,
+        found,
+        rows,
+        multipliers,
+        order,
+        area::PRODUCT_D,
+        area::VELOCITY,
+    ) {
         return Segment::Ended(false);
     }
-    if !compact::product(area, h, theta, block, area::PRODUCT_Z, area::DISPLACEMENT) {
+    if !compact::product(
+        area,
+        h,
+        theta,
+        found,
+        rows,
+        multipliers,
+        order,
+        area::PRODUCT_Z,
+        area::DISPLACEMENT,
+    ) {
         return Segment::Ended(false);
     }
     let s = slope(area, h.n);
@@ -458,16 +481,19 @@ pub fn generalized_cauchy(
     area: &mut [f64],
     h: compact::Shape,
     theta: f64,
-    block: [[f64; 32]; 32],
+    found: bool,
+    rows: &[[f64; 32]; 32],
+    multipliers: &[[f64; 32]; 32],
+    order: &[usize; 32],
 ) -> bool
-    requires { ⌜ Sound h (length (now area)) × Modelled h theta block (view (now area) (h .n)) × (h .n ≤ 64) ⌝ }
+    requires { ⌜ Sound h (length (now area)) × Prepared h theta found (now rows) (now multipliers) (now order) (view (now area) (h .n)) × (h .n ≤ 64) ⌝ }
     ensures { λ r. ⌜ (let v = view (now (area .entry)) (h .n) in Points (generalizedCauchy (h .n) (boundsOf v) (compactOf h theta v) (v X) (v G)) v r (view (now (area .exit)) (h .n))) ⌝ }
 {
     let b = find_breaks(area, h.n);
     let mut p = begin_path(area, h.n);
     let mut left = h.n + 1;
     loop {
-        let s = segment_from(area, h, theta, block, b, p);
+        let s = segment_from(area, h, theta, found, rows, multipliers, order, b, p);
         match s {
             Segment::Ended(ok) => {
                 return ok;

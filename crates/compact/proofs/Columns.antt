@@ -13,11 +13,13 @@ use lib.Ieee.{Float, nan}
 use Rattle.definition.specs.Number.{plus, minus, times, negZero}
 use Rattle.definition.specs.Vector.{tab, word, foldTo, dot, allFinite, finiteOnly}
 use Rattle.definition.specs.Solve.{Matrix, solve}
-use Rattle.definition.specs.Compact.{Compact, pairOf, columnWord, columnDot, zeroRow, rightSide, weights, lessWord, product}
+use Rattle.definition.specs.Compact.{Compact, pairOf, columnWord, columnDot, zeroRow, block, rightSide, weights, lessWord, product}
 use Rattle.area.specs.Area.{Vecs, upd, copyOf, view, rowwise, given}
 use Rattle.area.proofs.Laws.{length-view, upd-other}
+use Rattle.solve.specs.Factors.{solvedWith}
+use Rattle.solve.proofs.Steps.{factors-solve}
 use Rattle.compact.specs.declared.Shape.{Shape}
-use Rattle.compact.specs.State.{columnSlot, pairsOf, compactOf, Sound, Slot, Laid, PairsKept, Modelled, Multiplied, lessTo}
+use Rattle.compact.specs.State.{columnSlot, pairsOf, compactOf, Sound, Slot, Laid, PairsKept, Modelled, Prepared, Multiplied, lessTo}
 use Rattle.compact.proofs.Laws.{tab-get, tab-same, tab-word, fold-same, pairs-count, upd-same, upd-twice, upd-none, given-is}
 use Rattle.compact.proofs.Models.{compact-laid}
 
@@ -158,12 +160,18 @@ lessened-done {h} {theta} {z} {p} {k} {o} {a} {b} q w g e r l =
 -- ---- products with B
 
 -- the code's way to the weights
-pub weighed : (h : Shape) (theta : Float) (v : Vecs) (q : ℕ) (m : Matrix) (y : List Float) (r : Option (List Float)) → (h .pairs ≡ 0 → ⊥) → Modelled h theta m v
+weighed : (h : Shape) (theta : Float) (v : Vecs) (q : ℕ) (m : Matrix) (y : List Float) (r : Option (List Float)) → (h .pairs ≡ 0 → ⊥) → Modelled h theta m v
     → y ≡ rightSide (h .n) (compactOf h theta v) (v q) → r ≡ solve (2 * h .pairs) m y → r ≡ weights (h .n) (compactOf h theta v) (v q)
 unfolding weights
 weighed h theta v q m y r d e f g =
     rw (pairs-count h v, ne-eqb (h .pairs) 0 d)
     (g ∙ (λ i. solve (2 * h .pairs) (rw (pairs-count h v) at (e .block) i) (rw (pairs-count h v) at f i)))
+
+pub weighed-with : {h : Shape} {theta : Float} {v : Vecs} {ok : Bool} {t f : Matrix} {p : List ℕ} (q : ℕ) (y : List Float) (r : Option (List Float)) → (h .pairs ≡ 0 → ⊥)
+    → Prepared h theta ok t f p v → y ≡ rightSide (h .n) (compactOf h theta v) (v q) → r ≡ solvedWith (2 * h .pairs) ok t f p y
+    → r ≡ weights (h .n) (compactOf h theta v) (v q)
+weighed-with {h} {theta} {v} q y r d e f g =
+    weighed h theta v q (block (h .n) (compactOf h theta v)) y r d (record { laid = e .laid; block = refl }) f (g ∙ factors-solve y (e .factors))
 
 pub unweighed : (h : Shape) (theta : Float) (v : Vecs) (q : ℕ) → h .pairs ≡ 0 → some zeroRow ≡ weights (h .n) (compactOf h theta v) (v q)
 unfolding weights

@@ -1,5 +1,5 @@
 -- What later crates need of a model: it stays while the vectors from 16 on stay, and its entries. Assumes nothing.
-use mathlib.Core.Path.{_≡_, refl, sym, ap, _∙_}
+use mathlib.Core.Path.{_≡_, refl, sym, ap, subst, _∙_}
 use mathlib.Core.Bool.{Bool}
 use mathlib.Core.List.{List, []}
 use Prim.Native.Nat.{ℕ, _+_, _*_, _≤_, _<_}
@@ -11,8 +11,9 @@ use Rattle.definition.specs.Solve.{Matrix, entry}
 use Rattle.definition.specs.Compact as C
 use Rattle.area.specs.Area.{Vecs, upd, ScratchOnly}
 use Rattle.area.proofs.Laws.{upd-other}
+use Rattle.solve.specs.Factors.{Factored}
 use Rattle.compact.specs.declared.Shape.{Shape}
-use Rattle.compact.specs.State.{pairSlot, columnSlot, pairAt, pairsOf, compactOf, Sound, Laid, PairsKept, Modelled, Multiplied}
+use Rattle.compact.specs.State.{pairSlot, columnSlot, pairAt, pairsOf, compactOf, Sound, Laid, PairsKept, Modelled, Prepared, Multiplied}
 use Rattle.compact.proofs.Laws.{tab-same, pairs-count, padded-get, place-below}
 
 -- every vector from 16 on is as it was
@@ -41,6 +42,21 @@ modelled-kept {h} {theta} {m} {a} b k r = record {
   block = r .block ∙ ap (C.block (h .n)) (sym (compact-kept h theta a b k));
 }
 
+pub prepared-kept : {h : Shape} {theta : Float} {ok : Bool} {t f : Matrix} {p : List ℕ} {a : Vecs} (b : Vecs) → HighKept a b
+    → Prepared h theta ok t f p a → Prepared h theta ok t f p b
+prepared-kept {h} {theta} {ok} {t} {f} {p} {a} b k r = record {
+  laid = laid-kept b k (r .laid);
+  factors = subst (λ (c : C.Compact). Factored (2 * h .pairs) (C.block (h .n) c) ok t f p) (sym (compact-kept h theta a b k)) (r .factors);
+}
+
+-- the block factored
+pub prepared : {h : Shape} {theta : Float} {m : Matrix} {ok : Bool} {t f : Matrix} {p : List ℕ} {v : Vecs} → Modelled h theta m v
+    → Factored (2 * h .pairs) m ok t f p → Prepared h theta ok t f p v
+prepared {h} {ok = ok} {t = t} {f = f} {p = p} r e = record {
+  laid = r .laid;
+  factors = subst (λ (b : Matrix). Factored (2 * h .pairs) b ok t f p) (r .block) e;
+}
+
 -- the vectors below the columns kept, as where the columns are laid out
 pub compact-laid : {h : Shape} {size : ℕ} (theta : Float) (a b : Vecs) → Sound h size → PairsKept h a b → compactOf h theta b ≡ compactOf h theta a
 unfolding pairsOf
@@ -63,6 +79,10 @@ laid-upd {a = a} p v l r = laid-kept (upd a p v) (high-upd a p v l) r
 
 pub modelled-upd : {h : Shape} {theta : Float} {m : Matrix} {a : Vecs} (p : ℕ) (v : List Float) → p < 16 → Modelled h theta m a → Modelled h theta m (upd a p v)
 modelled-upd {a = a} p v l r = modelled-kept (upd a p v) (high-upd a p v l) r
+
+pub prepared-upd : {h : Shape} {theta : Float} {ok : Bool} {t f : Matrix} {o : List ℕ} {a : Vecs} (p : ℕ) (v : List Float) → p < 16
+    → Prepared h theta ok t f o a → Prepared h theta ok t f o (upd a p v)
+prepared-upd {a = a} p v l r = prepared-kept (upd a p v) (high-upd a p v l) r
 
 -- after a product into one of the first sixteen
 pub multiplied-high : {h : Shape} {theta : Float} {p q : ℕ} {a b : Vecs} {ok : Bool} → p < 16 → Multiplied h theta p q a ok b → HighKept a b

@@ -11,6 +11,7 @@ use Rattle.definition.specs.Solve.{Matrix}
 use Rattle.definition.specs.Compact as C
 use Rattle.definition.specs.Compact.{wrap}
 use Rattle.area.specs.Area.{Vecs, upd, given, Velocity, Displacement}
+use Rattle.solve.specs.Factors.{Factored}
 use Rattle.compact.specs.declared.Shape.{Shape}
 
 -- ---- where the pairs stand
@@ -95,6 +96,11 @@ blockTo h theta v k = C.padded C.zeroRow k (λ (i : ℕ). C.padded zero64 (2 * h
 pub record Modelled (h : Shape) (theta : Float) (b : Matrix) (v : Vecs) : Type 0 where
   pub laid : Laid h theta v
   pub block : b ≡ C.block (h .n) (compactOf h theta v)
+
+-- what products are made with: the columns laid out, and the factors of the block, where ok says that it has them
+pub record Prepared (h : Shape) (theta : Float) (ok : Bool) (t f : Matrix) (p : List ℕ) (v : Vecs) : Type 0 where
+  pub laid : Laid h theta v
+  pub factors : Factored (2 * h .pairs) (C.block (h .n) (compactOf h theta v)) ok t f p
 
 -- vector p of b is the product, where ok says that there is one, and the others are as in a
 pub record Multiplied (h : Shape) (theta : Float) (p q : ℕ) (a : Vecs) (ok : Bool) (b : Vecs) : Type 0 where

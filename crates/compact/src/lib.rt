@@ -9,7 +9,7 @@ ghost use Rattle.definition.specs.Compact.{curved as curvedOf, usable as usable
 ghost use Rattle.definition.specs.Compact.{wrap, padded, zeroRow, block as blockOf, rightSide, weights as weightsOf};
 ghost use Rattle.area.specs.Area.{view, upd, rowwise};
 ghost use Rattle.solve.specs.Answers.{answerOf};
-ghost use Rattle.compact.specs.State.{pairsOf, compactOf, columnSlot, blockTo, Sound, Slot, pushedShape, Pushed, Laid, PairsKept, Modelled, Multiplied, lessTo};
+ghost use Rattle.compact.specs.State.{pairsOf, compactOf, columnSlot, blockTo, Sound, Slot, pushedShape, Pushed, Laid, PairsKept, Prepared, Multiplied, lessTo};
 
 // What the places of the pairs rest on: n coordinates, m places, how many are used, and which is the oldest.
 pub struct Shape {
@@ -279,8 +279,17 @@ fn right_side(area: &[f64], h: Shape, theta: f64, q: usize) -> [f64; 32]
 }
 
 // The weights of the columns in the product with vector q, where there are any.
-fn weights(area: &[f64], h: Shape, theta: f64, block: [[f64; 32]; 32], q: usize) -> solve::Answer
-    requires { ⌜ Sound h (length (now area)) × Modelled h theta block (view (now area) (h .n)) × (q < 16) ⌝ }
+fn weights(
+    area: &[f64],
+    h: Shape,
+    theta: f64,
+    found: bool,
+    rows: &[[f64; 32]; 32],
+    multipliers: &[[f64; 32]; 32],
+    order: &[usize; 32],
+    q: usize,
+) -> solve::Answer
+    requires { ⌜ Sound h (length (now area)) × Prepared h theta found (now rows) (now multipliers) (now order) (view (now area) (h .n)) × (q < 16) ⌝ }
     ensures { λ r. ⌜ answerOf r ≡ weightsOf (h .n) (compactOf h theta (view (now (area .entry)) (h .n))) (view (now (area .entry)) (h .n) q) ⌝ }
 {
     if h.pairs == 0 {
@@ -288,7 +297,7 @@ fn weights(area: &[f64], h: Shape, theta: f64, block: [[f64; 32]; 32], q: usize)
         return solve::Answer { ok: true, x: z };
     }
     let y = right_side(area, h, theta, q);
-    solve::solve(2 * h.pairs, block, y)
+    solve::solve_with(2 * h.pairs, found, rows, multipliers, order, y)
 }
 
 // Vector p becomes itself less w times vector q.
@@ -324,14 +333,17 @@ pub fn product(
     area: &mut [f64],
     h: Shape,
     theta: f64,
-    block: [[f64; 32]; 32],
+    found: bool,
+    rows: &[[f64; 32]; 32],
+    multipliers: &[[f64; 32]; 32],
+    order: &[usize; 32],
     p: usize,
     q: usize,
 ) -> bool
-    requires { ⌜ Sound h (length (now area)) × Modelled h theta block (view (now area) (h .n)) × (p < 16) × (q < 16) ⌝ }
+    requires { ⌜ Sound h (length (now area)) × Prepared h theta found (now rows) (now multipliers) (now order) (view (now area) (h .n)) × (p < 16) × (q < 16) ⌝ }
     ensures { λ r. ⌜ Multiplied h theta p q (view (now (area .entry)) (h .n)) r (view (now (area .exit)) (h .n)) ⌝ }
 {
-    let w = weights(area, h, theta, block, q);
+    let w = weights(area, h, theta, found, rows, multipliers, order, q);
     if !w.ok {
         return false;
     }

@@ -13,17 +13,21 @@ use fit::Fit;
 
 // ---- the model
 
-// The Cauchy point and the target, in their vectors: the columns are laid out and the block is built once.
+// The Cauchy point and the target, in their vectors: the columns are laid out, and the block is built and factored once.
 fn model(area: &mut [f64], h: Shape, theta: f64) -> bool
     requires { ⌜ Sound h (length (now area)) × (h .n ≤ 64) ⌝ }
     ensures { λ r. ⌜ Offers h theta (view (now (area .entry)) (h .n)) r (view (now (area .exit)) (h .n)) ⌝ }
 {
     compact::lay_columns(area, h, theta);
     let block = compact::block(area, h, theta);
-    if !cauchy::generalized_cauchy(area, h, theta, block) {
+    let mut rows = block;
+    let mut multipliers = compact::zero_rows();
+    let mut order = [0usize; 32];
+    let found = solve::factor(2 * h.pairs, &mut rows, &mut multipliers, &mut order);
+    if !cauchy::generalized_cauchy(area, h, theta, found, &rows, &multipliers, &order) {
         return false;
     }
-    subspace::primal_minimize(area, h, theta, block)
+    subspace::primal_minimize(area, h, theta, &block, found, &rows, &multipliers, &order)
 }
 
 // Along the direction to the end chosen.

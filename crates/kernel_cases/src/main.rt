@@ -6,7 +6,7 @@ ghost use mathlib.Core.Bool.{true};
 ghost use Prim.Native.Nat.{_+_, _*_, _≤_, _<_};
 ghost use lib.ListN.{length};
 ghost use Rattle.area.specs.Area.{view};
-ghost use Rattle.compact.specs.State.{Sound, Modelled};
+ghost use Rattle.compact.specs.State.{Sound, Modelled, Prepared};
 
 const SOLVE: u64 = 1;
 
@@ -356,8 +356,21 @@ fn multiplied(area: &mut [f64], h: compact::Shape, theta: f64) -> bool
     requires { ⌜ Sound h (length (now area)) ⌝ }
 {
     compact::lay_columns(area, h, theta);
-    let b = compact::block(area, h, theta);
-    compact::product(area, h, theta, b, area::PRODUCT_D, area::VELOCITY)
+    let mut rows = compact::block(area, h, theta);
+    let mut multipliers = compact::zero_rows();
+    let mut order = [0usize; 32];
+    let found = solve::factor(2 * h.pairs, &mut rows, &mut multipliers, &mut order);
+    compact::product(
+        area,
+        h,
+        theta,
+        found,
+        &rows,
+        &multipliers,
+        &order,
+        area::PRODUCT_D,
+        area::VELOCITY,
+    )
 }
 
 // Loads the model with v, multiplies, and compares.
@@ -455,16 +468,20 @@ fn from_cauchy(
     area: &mut [f64],
     h: compact::Shape,
     theta: f64,
-    block: [[f64; 32]; 32],
+    block: &[[f64; 32]; 32],
+    found: bool,
+    rows: &[[f64; 32]; 32],
+    multipliers: &[[f64; 32]; 32],
+    order: &[usize; 32],
     s: &[u8],
     at: usize,
 ) -> bool
-    requires { ⌜ Sound h (length (now area)) × Modelled h theta block (view (now area) (h .n)) ⌝ }
+    requires { ⌜ Sound h (length (now area)) × Modelled h theta (now block) (view (now area) (h .n)) × Prepared h theta found (now rows) (now multipliers) (now order) (view (now area) (h .n)) ⌝ }
 {
     if !is_cauchy(area, h.n, s, at) {
         return false;
     }
-    let ok = subspace::primal_minimize(area, h, theta, block);
+    let ok = subspace::primal_minimize(area, h, theta, block, found, rows, multipliers, order);
     is_target(area, h.n, ok, s, target_flag(h.n, at))
 }
 
@@ -474,8 +491,23 @@ fn is_geometry(area: &mut [f64], h: compact::Shape, theta: f64, s: &[u8], at: us
 {
     compact::lay_columns(area, h, theta);
     let b = compact::block(area, h, theta);
-    if cauchy::generalized_cauchy(area, h, theta, b) {
-        return from_cauchy(area, h, theta, b, s, at);
+    let mut rows = b;
+    let mut multipliers = compact::zero_rows();
+    let mut order = [0usize; 32];
+    let found = solve::factor(2 * h.pairs, &mut rows, &mut multipliers, &mut order);
+    if cauchy::generalized_cauchy(area, h, theta, found, &rows, &multipliers, &order) {
+        return from_cauchy(
+            area,
+            h,
+            theta,
+            &b,
+            found,
+            &rows,
+            &multipliers,
+            &order,
+            s,
+            at,
+        );
     }
     is_neither(h.n, s, at)
 }

@@ -1,14 +1,15 @@
 // `solve`: Gauss elimination with the pivots of the definition, on a matrix taken by value. One function for each definition.
 ghost use mathlib.Core.Path.{_≡_};
-ghost use mathlib.Core.Bool.{cond, false};
-ghost use mathlib.Core.Option.{some};
+ghost use mathlib.Core.Bool.{cond, true, false};
 ghost use Prim.Native.Nat.{_+_, _-_, _≤_, _<_};
+ghost use lib.ListN.{length};
 ghost use lib.Ieee.{isNan};
-ghost use Rattle.definition.specs.Number.{times, abs as absOf, max as maxOf, toWord, magnitudeLe};
+ghost use Rattle.definition.specs.Number.{times, over, abs as absOf, max as maxOf, toWord, magnitudeLe};
 ghost use Rattle.definition.specs.Vector.{foldTo, word, sum as sumOf, allFinite};
-ghost use Rattle.definition.specs.Solve.{entry, scaleOf, pivotOf, system, swapped, lessRow, lessPivot, eliminated, pivots as pivotsOf};
-ghost use Rattle.definition.specs.Solve.{column as columnOf, triangular as triangularOf, backRow, backward as backwardOf, solvedFrom, solvable as solvableOf, solve as solveOf};
-ghost use Rattle.solve.specs.Answers.{answerOf, systemIf};
+ghost use Rattle.definition.specs.Solve.{row, entry, scaleOf, pivotOf, system, swapRows, swapWords, lessRow, pivots as pivotsOf};
+ghost use Rattle.definition.specs.Solve.{backRow, backward as backwardOf, solve as solveOf};
+ghost use Rattle.solve.specs.Answers.{answerOf};
+ghost use Rattle.solve.specs.Factors.{Within, clearedTo, forwardTo, Eliminates, Clears, Triangular, regular as regularOf, Factored, solvedWith};
 
 // The solution in the first n places, where there is one.
 pub struct Answer {
@@ -87,19 +88,15 @@ fn pivot(a: &[[f64; 32]; 32], n: usize, k: usize) -> usize
     best.row
 }
 
-// Rows k and p change places, and so do their right sides.
-fn swap(a: &mut [[f64; 32]; 32], b: &mut [f64; 32], k: usize, p: usize)
+// Rows k and p change places.
+fn swap_rows(a: &mut [[f64; 32]; 32], k: usize, p: usize)
     requires { ⌜ (k < 32) × (p < 32) ⌝ }
-    ensures { λ _. ⌜ system (now (a .exit)) (now (b .exit)) ≡ swapped (system (now (a .entry)) (now (b .entry))) k p ⌝ }
+    ensures { λ _. ⌜ now (a .exit) ≡ swapRows (now (a .entry)) k p ⌝ }
 {
     let r = a[k];
     let s = a[p];
     a[k] = s;
     a[p] = r;
-    let u = b[k];
-    let v = b[p];
-    b[k] = v;
-    b[p] = u;
 }
 
 // Row i, less f times row k, at the columns past k.
@@ -116,27 +113,29 @@ fn less_row(a: &mut [[f64; 32]; 32], n: usize, f: f64, k: usize, i: usize)
     }
 }
 
-// Row i and its right side, less the multiple of row k that clears its entry in column k.
-fn less_pivot(a: &mut [[f64; 32]; 32], b: &mut [f64; 32], n: usize, k: usize, i: usize)
+// Row i, less the multiple of row k that clears its entry in column k. The answer is the multiplier.
+fn less_pivot(a: &mut [[f64; 32]; 32], n: usize, k: usize, i: usize) -> f64
     requires { ⌜ (k < n) × (i < n) × (n ≤ 32) ⌝ }
-    ensures { λ _. ⌜ system (now (a .exit)) (now (b .exit)) ≡ lessPivot n k i (system (now (a .entry)) (now (b .entry))) ⌝ }
+    ensures { λ r. ⌜ (r ≡ over (entry (now (a .entry)) i k) (entry (now (a .entry)) k k)) × (now (a .exit) ≡ lessRow n r (now (a .entry)) k i) ⌝ }
 {
     let f = a[i][k] / a[k][k];
     less_row(a, n, f, k, i);
-    b[i] = b[i] - f * b[k];
+    f
 }
 
-// Every row below row k.
-fn eliminate(a: &mut [[f64; 32]; 32], b: &mut [f64; 32], n: usize, k: usize)
+// Every row below row k. The answer is the multipliers, each at its row's place.
+fn eliminate(a: &mut [[f64; 32]; 32], n: usize, k: usize) -> [f64; 32]
     requires { ⌜ (k < n) × (n ≤ 32) ⌝ }
-    ensures { λ _. ⌜ system (now (a .exit)) (now (b .exit)) ≡ eliminated n k (system (now (a .entry)) (now (b .entry))) ⌝ }
+    ensures { λ r. ⌜ Eliminates n k (now (a .entry)) r (now (a .exit)) ⌝ }
 {
     let rows = n - (k + 1);
+    let mut m = [0.0f64; 32];
     let mut d = 0;
     while d < rows {
-        less_pivot(a, b, n, k, k + 1 + d);
+        m[k + 1 + d] = less_pivot(a, n, k, k + 1 + d);
         d += 1;
     }
+    m
 }
 
 // Whether d is a pivot: finite, and above the threshold in magnitude.
@@ -149,34 +148,86 @@ fn pivots(scale: f64, d: f64) -> bool
     false
 }
 
-// Column k: its pivot is brought to row k, and the rows below are cleared; false where it has none.
-fn column(a: &mut [[f64; 32]; 32], b: &mut [f64; 32], n: usize, scale: f64, k: usize) -> bool
+// A column's pivot, where it has one: the row where it stood, and the multipliers of the rows below.
+struct Step {
+    ok: bool,
+    row: usize,
+    multipliers: [f64; 32],
+}
+
+// Column k: its pivot is brought to row k, and the rows below are cleared.
+fn column(a: &mut [[f64; 32]; 32], n: usize, scale: f64, k: usize) -> Step
     requires { ⌜ (k < n) × (n ≤ 32) ⌝ }
-    ensures { λ r. ⌜ systemIf r (system (now (a .exit)) (now (b .exit))) ≡ columnOf n scale k (some (system (now (a .entry)) (now (b .entry)))) ⌝ }
+    ensures { λ r. ⌜ (r .row < n) × Clears n scale k (now (a .entry)) (r .ok) (r .row) (r .multipliers) (now (a .exit)) ⌝ }
 {
     let p = pivot(a, n, k);
-    swap(a, b, k, p);
+    swap_rows(a, k, p);
     if pivots(scale, a[k][k]) {
-        eliminate(a, b, n, k);
-        return true;
+        let m = eliminate(a, n, k);
+        return Step {
+            ok: true,
+            row: p,
+            multipliers: m,
+        };
     }
-    false
+    Step {
+        ok: false,
+        row: p,
+        multipliers: [0.0; 32],
+    }
 }
 
 // Every column in turn; false at the first that has no pivot.
-fn triangular(a: &mut [[f64; 32]; 32], b: &mut [f64; 32], n: usize, scale: f64) -> bool
-    requires { ⌜ n ≤ 32 ⌝ }
-    ensures { λ r. ⌜ systemIf r (system (now (a .exit)) (now (b .exit))) ≡ triangularOf n scale (system (now (a .entry)) (now (b .entry))) ⌝ }
+fn triangular(
+    a: &mut [[f64; 32]; 32],
+    multipliers: &mut [[f64; 32]; 32],
+    order: &mut [usize; 32],
+    n: usize,
+    scale: f64,
+) -> bool
+    requires { ⌜ (n ≤ 32) × (length (now multipliers) ≡ 32) × (length (now order) ≡ 32) ⌝ }
+    ensures { λ r. ⌜ Triangular n scale (now (a .entry)) r (now (a .exit)) (now (multipliers .exit)) (now (order .exit)) ⌝ }
 {
     let mut k = 0;
     while k < n {
-        let found = column(a, b, n, scale, k);
-        if !found {
+        let s = column(a, n, scale, k);
+        if !s.ok {
             return false;
         }
+        let m = s.multipliers;
+        multipliers[k] = m;
+        order[k] = s.row;
         k += 1;
     }
     true
+}
+
+// Whether the matrix's scale lets elimination begin.
+fn regular(scale: f64) -> bool
+    ensures { λ r. ⌜ r ≡ regularOf scale ⌝ }
+{
+    if !float::is_finite(scale) {
+        return false;
+    }
+    !(scale == 0.0)
+}
+
+// The elimination of the first n rows and columns, once for every right side: the matrix is left triangular, place k of order is the row
+// that changed places with row k, and row k of multipliers are the multiples of row k that were taken from the rows below.
+pub fn factor(
+    n: usize,
+    a: &mut [[f64; 32]; 32],
+    multipliers: &mut [[f64; 32]; 32],
+    order: &mut [usize; 32],
+) -> bool
+    requires { ⌜ (n ≤ 32) × (length (now multipliers) ≡ 32) × (length (now order) ≡ 32) ⌝ }
+    ensures { λ r. ⌜ Factored n (now (a .entry)) r (now (a .exit)) (now (multipliers .exit)) (now (order .exit)) ⌝ }
+{
+    let most = scale(a, n);
+    if !regular(most) {
+        return false;
+    }
+    triangular(a, multipliers, order, n, most)
 }
 
 // The product of row i past its diagonal and x, from -0.0.
@@ -234,30 +285,68 @@ fn all_finite(v: &[f64; 32], n: usize) -> bool
     true
 }
 
-// Whether the matrix's scale and the right side let elimination begin.
-fn solvable(b: &[f64; 32], n: usize, scale: f64) -> bool
-    requires { ⌜ n ≤ 32 ⌝ }
-    ensures { λ r. ⌜ r ≡ solvableOf n scale (now (b .entry)) ⌝ }
+// Places k and p change places.
+fn swap_words(x: &mut [f64; 32], k: usize, p: usize)
+    requires { ⌜ (k < 32) × (p < 32) ⌝ }
+    ensures { λ _. ⌜ now (x .exit) ≡ swapWords (now (x .entry)) k p ⌝ }
 {
-    if !float::is_finite(scale) {
-        return false;
-    }
-    if scale == 0.0 {
-        return false;
-    }
-    all_finite(b, n)
+    let u = x[k];
+    let v = x[p];
+    x[k] = v;
+    x[p] = u;
 }
 
-// The answer, the scale being known; the system is left triangular.
-fn solved(a: &mut [[f64; 32]; 32], b: &mut [f64; 32], n: usize, scale: f64) -> Answer
-    requires { ⌜ n ≤ 32 ⌝ }
-    ensures { λ r. ⌜ answerOf r ≡ solvedFrom n (triangularOf n scale (system (now (a .entry)) (now (b .entry)))) ⌝ }
+// The places past k, each less its multiple of place k.
+fn clear(x: &mut [f64; 32], multipliers: &[[f64; 32]; 32], n: usize, k: usize)
+    requires { ⌜ (k < n) × (n ≤ 32) ⌝ }
+    ensures { λ _. ⌜ now (x .exit) ≡ clearedTo (n - (k + 1)) k (row (now (multipliers .entry)) k) (now (x .entry)) ⌝ }
 {
-    let done = triangular(a, b, n, scale);
-    if !done {
-        return Answer { ok: false, x: *b };
+    let rows = n - (k + 1);
+    let v = x[k];
+    let mut d = 0;
+    while d < rows {
+        let i = k + 1 + d;
+        x[i] = x[i] - multipliers[k][i] * v;
+        d += 1;
     }
-    let x = backward(a, *b, n);
+}
+
+// The right side, taken through the steps of the elimination.
+fn forward(multipliers: &[[f64; 32]; 32], order: &[usize; 32], b: [f64; 32], n: usize) -> [f64; 32]
+    requires { ⌜ (n ≤ 32) × Within n (now order) ⌝ }
+    ensures { λ r. ⌜ r ≡ forwardTo n n (now (multipliers .entry)) (now (order .entry)) b ⌝ }
+{
+    let mut x = b;
+    let mut k = 0;
+    while k < n {
+        let p = order[k];
+        swap_words(&mut x, k, p);
+        clear(&mut x, multipliers, n, k);
+        k += 1;
+    }
+    x
+}
+
+// The solution of the system whose matrix was factored.
+pub fn solve_with(
+    n: usize,
+    found: bool,
+    rows: &[[f64; 32]; 32],
+    multipliers: &[[f64; 32]; 32],
+    order: &[usize; 32],
+    b: [f64; 32],
+) -> Answer
+    requires { ⌜ (n ≤ 32) × (found ≡ true → Within n (now order)) ⌝ }
+    ensures { λ r. ⌜ answerOf r ≡ solvedWith n found (now (rows .entry)) (now (multipliers .entry)) (now (order .entry)) b ⌝ }
+{
+    if !found {
+        return Answer { ok: false, x: b };
+    }
+    if !all_finite(&b, n) {
+        return Answer { ok: false, x: b };
+    }
+    let right = forward(multipliers, order, b, n);
+    let x = backward(rows, right, n);
     let ok = all_finite(&x, n);
     Answer { ok: ok, x: x }
 }
@@ -268,10 +357,9 @@ pub fn solve(n: usize, a: [[f64; 32]; 32], b: [f64; 32]) -> Answer
     ensures { λ r. ⌜ answerOf r ≡ solveOf n a b ⌝ }
 {
     let mut rows = a;
-    let mut right = b;
-    let most = scale(&rows, n);
-    if !solvable(&right, n, most) {
-        return Answer { ok: false, x: b };
-    }
-    solved(&mut rows, &mut right, n, most)
+    let z = [0.0f64; 32];
+    let mut multipliers = [z; 32];
+    let mut order = [0usize; 32];
+    let found = factor(n, &mut rows, &mut multipliers, &mut order);
+    solve_with(n, found, &rows, &multipliers, &order, b)
 }

@@ -17,9 +17,9 @@ use Rattle.definition.specs.Geometry.{free, correction, weightedSteps, stepsWit
 use Rattle.area.specs.Area.{Vecs, upd, rowwise, given, copyOf, differenceOf, ScratchOnly, X, G, Lower, Upper, Displacement, Cauchy, Target, ProductD, ProductZ, Step}
 use Rattle.area.proofs.Laws.{scratch-refl, scratch-trans, scratch-upd}
 use Rattle.compact.specs.declared.Shape.{Shape}
-use Rattle.compact.specs.State.{compactOf, Modelled, Multiplied}
+use Rattle.compact.specs.State.{compactOf, Modelled, Prepared, Multiplied}
 use Rattle.compact.proofs.Laws.{tab-get, tab-same, pairs-count}
-use Rattle.compact.proofs.Models.{compact-kept, compact-upd, modelled-kept, modelled-upd}
+use Rattle.compact.proofs.Models.{compact-kept, compact-upd, modelled-kept, prepared-upd}
 use Rattle.subspace.specs.State.{plainIn, weightedIn, movedIn, boundsOf, anyFreeAt, weightsAt, productAt, residualFrom, residualAt, correctionsAt, stepsAt, shareAt, movedAt, movedByAt, onFreeAt, minimumAt, Makes}
 
 scratch-by : {a b : Vecs} (p : ℕ) (x : List Float) → 8 ≤ p → p < 16 → b ≡ upd a p x → ScratchOnly a b
@@ -63,9 +63,10 @@ a-move n a b t alpha ok e d s m = makes-as (rw (sym e ∙ not-false t d) (ap (mo
 
 -- ---- the residual
 
-pub differenced : {h : Shape} {theta : Float} {m : Matrix} {a b : Vecs} (q r : ℕ) → b ≡ differenceOf (h .n) Displacement q r a → Modelled h theta m a → Modelled h theta m b
+pub differenced : {h : Shape} {theta : Float} {ok : Bool} {t f : Matrix} {o : List ℕ} {a b : Vecs} (q r : ℕ) → b ≡ differenceOf (h .n) Displacement q r a
+    → Prepared h theta ok t f o a → Prepared h theta ok t f o b
 unfolding differenceOf
-differenced {h} {a = a} q r e k = rw e (modelled-upd Displacement (difference (h .n) (a q) (a r)) (omega arith) k)
+differenced {h} {a = a} q r e k = rw e (prepared-upd Displacement (difference (h .n) (a q) (a r)) (omega arith) k)
 
 product-is : (h : Shape) (theta : Float) (a b d : Vecs) (ok : Bool) → b ≡ differenceOf (h .n) Displacement Cauchy X a → Multiplied h theta ProductZ Displacement b ok d
     → given ok (d ProductZ) ≡ productAt h theta a

@@ -9,7 +9,7 @@ ghost use Rattle.definition.specs.Number.{plus, times, zero64};
 ghost use Rattle.definition.specs.Compact.{padded, paddedRows};
 ghost use Rattle.area.specs.Area.{view, upd, wordsAt, rowwise, Target, ProductD, ProductZ, Step, G};
 ghost use Rattle.solve.specs.Answers.{answerOf};
-ghost use Rattle.compact.specs.State.{compactOf, Sound, Laid, Modelled};
+ghost use Rattle.compact.specs.State.{compactOf, Sound, Laid, Modelled, Prepared};
 ghost use Rattle.subspace.specs.State.{freeIn, freeTerm, plainIn, weightedIn, shortenedIn, shareIn, movedIn, headIn, headed, Makes, Minimizes};
 ghost use Rattle.subspace.specs.State.{anyFreeAt, freeSumAt, reducedAt, rightAt, weightsAt, residualAt, correctionsAt, stepsAt, shareAt, movedAt, movedByAt, onFreeAt, minimumAt};
 
@@ -82,12 +82,30 @@ fn add_gradient(area: &mut [f64], n: usize)
 }
 
 // The residual in its vector; false where there is no product with the displacement.
-fn residual(area: &mut [f64], h: compact::Shape, theta: f64, block: [[f64; 32]; 32]) -> bool
-    requires { ⌜ Sound h (length (now area)) × Modelled h theta block (view (now area) (h .n)) ⌝ }
+fn residual(
+    area: &mut [f64],
+    h: compact::Shape,
+    theta: f64,
+    found: bool,
+    rows: &[[f64; 32]; 32],
+    multipliers: &[[f64; 32]; 32],
+    order: &[usize; 32],
+) -> bool
+    requires { ⌜ Sound h (length (now area)) × Prepared h theta found (now rows) (now multipliers) (now order) (view (now area) (h .n)) ⌝ }
     ensures { λ r. ⌜ Makes ProductD (residualAt h theta (view (now (area .entry)) (h .n))) (view (now (area .entry)) (h .n)) r (view (now (area .exit)) (h .n)) ⌝ }
 {
     area::difference(area, h.n, area::DISPLACEMENT, area::CAUCHY, area::X);
-    let found = compact::product(area, h, theta, block, area::PRODUCT_Z, area::DISPLACEMENT);
+    let found = compact::product(
+        area,
+        h,
+        theta,
+        found,
+        rows,
+        multipliers,
+        order,
+        area::PRODUCT_Z,
+        area::DISPLACEMENT,
+    );
     if !found {
         return false;
     }
@@ -355,15 +373,24 @@ fn moved_by(area: &mut [f64], n: usize) -> bool
 }
 
 // The target where a coordinate is free.
-fn on_free(area: &mut [f64], h: compact::Shape, theta: f64, block: [[f64; 32]; 32]) -> bool
-    requires { ⌜ Sound h (length (now area)) × Modelled h theta block (view (now area) (h .n)) ⌝ }
+fn on_free(
+    area: &mut [f64],
+    h: compact::Shape,
+    theta: f64,
+    block: &[[f64; 32]; 32],
+    found: bool,
+    rows: &[[f64; 32]; 32],
+    multipliers: &[[f64; 32]; 32],
+    order: &[usize; 32],
+) -> bool
+    requires { ⌜ Sound h (length (now area)) × Modelled h theta (now block) (view (now area) (h .n)) × Prepared h theta found (now rows) (now multipliers) (now order) (view (now area) (h .n)) ⌝ }
     ensures { λ r. ⌜ Makes Target (onFreeAt h theta (view (now (area .entry)) (h .n))) (view (now (area .entry)) (h .n)) r (view (now (area .exit)) (h .n)) ⌝ }
 {
-    let found = residual(area, h, theta, block);
+    let found = residual(area, h, theta, found, rows, multipliers, order);
     if !found {
         return false;
     }
-    let made = steps(area, h, theta, &block);
+    let made = steps(area, h, theta, block);
     if !made {
         return false;
     }
@@ -375,13 +402,17 @@ pub fn primal_minimize(
     area: &mut [f64],
     h: compact::Shape,
     theta: f64,
-    block: [[f64; 32]; 32],
+    block: &[[f64; 32]; 32],
+    found: bool,
+    rows: &[[f64; 32]; 32],
+    multipliers: &[[f64; 32]; 32],
+    order: &[usize; 32],
 ) -> bool
-    requires { ⌜ Sound h (length (now area)) × Modelled h theta block (view (now area) (h .n)) ⌝ }
+    requires { ⌜ Sound h (length (now area)) × Modelled h theta (now block) (view (now area) (h .n)) × Prepared h theta found (now rows) (now multipliers) (now order) (view (now area) (h .n)) ⌝ }
     ensures { λ r. ⌜ Minimizes (minimumAt h theta (view (now (area .entry)) (h .n))) (view (now (area .entry)) (h .n)) r (view (now (area .exit)) (h .n)) ⌝ }
 {
     if any_free(area, h.n) {
-        return on_free(area, h, theta, block);
+        return on_free(area, h, theta, block, found, rows, multipliers, order);
     }
     area::copy(area, h.n, area::TARGET, area::CAUCHY);
     true

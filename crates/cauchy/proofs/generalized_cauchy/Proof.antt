@@ -4,16 +4,16 @@ use borrow.Author.Needs.{needs}
 use lib.ListN.{length}
 use Rattle.area.specs.Area.{view}
 use Rattle.area.proofs.Laws.{scratch-trans}
-use Rattle.compact.proofs.Models.{modelled-kept}
+use Rattle.compact.proofs.Models.{prepared-kept}
 use Rattle.cauchy.proofs.Segments.{Walking, walking-none, walking-more, walking-ends, walking-stops, walks}
 use Rattle.cauchy.proofs.generalized_cauchy.Statement.{statement}
 use Rattle.cauchy.proofs.generalized_cauchy.Tie as tie
 
 abbrev Inv-loop : tie.InvT-loop
-Inv-loop area₀ h theta block b p₀ left₀ area p left = Walking h theta b left₀ p₀ (view area₀ (h .n)) left p (view area (h .n)) × (length area ≡ length area₀)
+Inv-loop area₀ h theta found rows multipliers order b p₀ left₀ area p left = Walking h theta b left₀ p₀ (view area₀ (h .n)) left p (view area (h .n)) × (length area ≡ length area₀)
 
 abbrev μ-loop : tie.MeasureT-loop
-μ-loop area₀ h theta block b p₀ left₀ area p left = left
+μ-loop area₀ h theta found rows multipliers order b p₀ left₀ area p left = left
 
 loop-holds : tie.Need-loop-holds Inv-loop μ-loop
 loop-holds c = (walking-none, refl)
@@ -21,7 +21,7 @@ loop-holds c = (walking-none, refl)
 segment-from-requires : tie.Need-segment-from-requires Inv-loop μ-loop
 segment-from-requires c κs = let l = c .before .loop .inv in (
   rw (l .1 ∙ c .before .before .before .before .area .given) (c .before .before .before .before .before .before .before .before .before .before .pre .0),
-  modelled-kept _ (scratch-trans (c .before .before .before .before .before .begin-path .ensures .kept) (l .0 .kept) .high) (c .before .before .before .before .before .before .before .before .before .before .pre .1),
+  prepared-kept _ (scratch-trans (c .before .before .before .before .before .begin-path .ensures .kept) (l .0 .kept) .high) (c .before .before .before .before .before .before .before .before .before .before .pre .1),
   c .before .before .before .before .before .before .before .find-breaks .ensures .listed,
 )
 

@@ -1,7 +1,7 @@
 -- `cauchy::segment_from` meets its contract: no direction left, a product that fails, or the slope decides. Assumes nothing.
 use native.Mathlib.Omega.{arith}
 use Rattle.area.specs.Area.{ProductD}
-use Rattle.compact.proofs.Models.{modelled-kept}
+use Rattle.compact.proofs.Models.{prepared-kept}
 use Rattle.cauchy.proofs.Segments.{product-kept, segment-ends, segment-fails₁, segment-fails₂, segment-goes}
 use borrow.Author.Needs.{needs}
 use Rattle.cauchy.proofs.segment_from.Statement.{statement}
@@ -16,7 +16,7 @@ returns-2 c = let s = c .before .before .before .before .before .before .before 
 product-requires-2 : tie.Need-product-requires-2
 product-requires-2 c κs = (
   rw (← c .before .before .before .area2 .given) at (c .before .before .before .before .before .before .before .before .before .before .pre .0),
-  modelled-kept _ (product-kept ProductD (c .before .before .before .before .product .ensures) (omega arith) (omega arith) .high) (c .before .before .before .before .before .before .before .before .before .before .pre .1),
+  prepared-kept _ (product-kept ProductD (c .before .before .before .before .product .ensures) (omega arith) (omega arith) .high) (c .before .before .before .before .before .before .before .before .before .before .pre .1),
   omega arith,
   omega arith,
 )

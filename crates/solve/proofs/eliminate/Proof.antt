@@ -1,25 +1,26 @@
 -- `solve::eliminate` meets its contract; in its loop the first d rows below k are done. Assumes nothing.
-use Prim.Native.Nat.{_-_, _+_}
-use Rattle.definition.specs.Solve.{system, lessPivot, eliminated}
-use Rattle.area.proofs.Laws.{Looped, looped-none, laws}
+use mathlib.Core.Path.{refl}
+use Prim.Native.Nat.{_-_}
+use native.Mathlib.Omega.{arith}
+use Rattle.area.proofs.Laws.{laws}
+use Rattle.solve.proofs.Steps.{Eliminating, eliminating-none, eliminating-more, eliminating-done}
 use Rattle.solve.proofs.eliminate.Statement.{statement}
 use Rattle.solve.proofs.eliminate.Tie as tie
 
 abbrev Inv-loop : tie.InvT-loop
-Inv-loop a₀ b₀ n k rows d₀ a b d = Looped (n - (k + 1)) (λ d t. lessPivot n k (k + 1 + d) t) (system a₀ b₀) (system a b) d
+Inv-loop a₀ n k rows m₀ d₀ a m d = Eliminating n k a₀ m a d
 
 abbrev μ-loop : tie.MeasureT-loop
-μ-loop a₀ b₀ n k rows d₀ a b d = rows - d
+μ-loop a₀ n k rows m₀ d₀ a m d = rows - d
 
 loop-holds : tie.Need-loop-holds Inv-loop μ-loop
-loop-holds c = looped-none
+loop-holds c = eliminating-none refl
 
 loop-again : tie.Need-loop-again Inv-loop μ-loop
-loop-again c = search laws
+loop-again c = eliminating-more (c .before .before .before .loop .inv) (omega arith) (omega arith) (c .less-pivot .ensures .0) (c .less-pivot .ensures .1)
 
 returns : tie.Need-returns Inv-loop μ-loop
-unfolding eliminated
-returns c = search laws
+returns c = eliminating-done (c .before .loop .inv) (omega arith)
 
 pub eliminate-spec : {M : Type 1} → statement M
 eliminate-spec =
@@ -33,6 +34,10 @@ eliminate-spec =
     (λ c. search laws)
     (λ c. search laws)
     (λ c κs. search laws)
+    (λ c. search laws)
+    (λ c. search laws)
+    (λ c. search laws)
+    (λ c. search laws)
     (λ c. search laws)
     (λ c. search laws)
     loop-again

@@ -1,28 +1,16 @@
--- `solve::solve` meets its contract. Assumes nothing.
+-- `solve::solve` meets its contract: factored, and solved with the factors. Assumes nothing.
+use mathlib.Core.Path.{refl, _∙_}
+use native.Mathlib.Omega.{arith}
 use borrow.Author.Needs.{needs}
-use borrow.Author.Tests.{not-true, not-false}
-use Rattle.definition.specs.Solve.{solve}
+use Rattle.solve.proofs.Steps.{factors-solve}
 use Rattle.solve.proofs.solve.Statement.{statement}
 use Rattle.solve.proofs.solve.Tie as tie
 
-returns : tie.Need-returns
-unfolding solve
-returns c =
-    let t = c .before in
-    simp (← (t .before .before .scale .ensures), ← (t .solvable .ensures), not-true (t .solvable .result) (c .if1 .taken))
+factor-requires : tie.Need-factor-requires
+factor-requires c κs = (omega arith, refl, refl)
 
-returns-2 : tie.Need-returns-2
-unfolding solve
-returns-2 c =
-    let t = c .before .before .before .before in
-    simp (← (t .before .before .scale .ensures), ← (t .solvable .ensures), not-false (t .solvable .result) (c .before .before .before .if1 .left)) (c .solved .ensures)
+returns : tie.Need-returns
+returns c = c .solve-with .ensures ∙ factors-solve _ (c .before .before .before .before .factor .ensures)
 
 pub solve-spec : {M : Type 1} → statement M
-solve-spec =
-    tie.close
-    (tie.spec
-    (λ c κs. search needs)
-    (λ c κs. search needs)
-    returns
-    (λ c κs. search needs)
-    returns-2)
+solve-spec = tie.close (tie.spec factor-requires (λ c κs. search needs) returns)
