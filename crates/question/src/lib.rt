@@ -2,11 +2,13 @@
 ghost use mathlib.Core.Path.{_≡_};
 ghost use Prim.Native.Nat.{_+_, _*_, _≤_, _<_};
 ghost use lib.ListN.{length};
+ghost use Rattle.definition.specs.Vector.{word};
 ghost use Rattle.definition.specs.Gradient.{probesAt};
 ghost use Rattle.definition.specs.Machine.{probePoint, kindOf, statusOf, unreported as unreportedIn, question as questionOf, report as reportIn};
-ghost use Rattle.area.specs.Area.{Vecs, view, Trial, X};
+ghost use Rattle.area.specs.Area.{Vecs, view, Trial, Lower, Upper, X};
 ghost use Rattle.compact.specs.State.{Sound};
-ghost use Rattle.gradient.specs.Probing.{probesIn};
+ghost use Rattle.problem.specs.Setups.{floatOf, schemeOf};
+ghost use Rattle.gradient.specs.Probing.{probesIn, probesFor};
 ghost use Rattle.fit.specs.State.{machine, machineOf, phaseOf, sideOf};
 ghost use Rattle.question.specs.Reports.{Within, pointAsked, written, probeWord, reportOf};
 use counters::Termination;
@@ -15,6 +17,8 @@ use fit::Phase;
 use fit::Place;
 use fit::Side;
 use gradient::Probes;
+use problem::MaybeFloat;
+use problem::Scheme;
 
 // `Outcome`: the report but for its point.
 pub struct Outcome {
@@ -41,19 +45,26 @@ pub fn kind_of(p: Phase) -> usize
     }
 }
 
+// What is probed of coordinate i of the trial point, by the parts of a fit that say so.
+pub fn probes_by(n: usize, eps: MaybeFloat, scheme: Scheme, area: &[f64], i: usize) -> Probes
+    requires { ⌜ (16 * n ≤ length (now area)) × (i < n) ⌝ }
+    ensures { λ r. ⌜ probesIn r ≡ probesFor (floatOf eps) (schemeOf scheme) (word (now (area .entry)) (Trial * n + i)) (word (now (area .entry)) (Lower * n + i)) (word (now (area .entry)) (Upper * n + i)) ⌝ }
+{
+    let x = area[area::TRIAL * n + i];
+    let low = area[area::LOWER * n + i];
+    let high = area[area::UPPER * n + i];
+    gradient::probes_between(eps, scheme, x, low, high)
+}
+
 // What is probed of coordinate i of the trial point.
 pub fn probes_at(t: Fit, area: &[f64], i: usize) -> Probes
     requires { ⌜ Sound (t .shape) (length (now area)) × (i < t .shape .n) ⌝ }
     ensures { λ r. ⌜ probesIn r ≡ probesAt (machineOf t (now (area .entry)) .terms) (view (now (area .entry)) (t .shape .n) Trial) i ⌝ }
 {
-    let n = t.shape.n;
     let o = t.options;
     let eps = o.eps;
     let scheme = o.scheme;
-    let x = area[area::TRIAL * n + i];
-    let low = area[area::LOWER * n + i];
-    let high = area[area::UPPER * n + i];
-    gradient::probes_between(eps, scheme, x, low, high)
+    probes_by(t.shape.n, eps, scheme, area, i)
 }
 
 // Vector p into the front of an output slice.

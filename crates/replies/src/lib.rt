@@ -7,13 +7,18 @@ ghost use Rattle.definition.specs.Machine.{withRight};
 ghost use Rattle.definition.specs.Driver.{probeFrom, probedTo as probedToOf, probed as probedOf, onNotSupplied, onProbe, onGoOn};
 ghost use Rattle.gradient.specs.Probing.{probesIn};
 ghost use Rattle.fit.specs.State.{placeOf, sideOf, Turns, Steps};
+ghost use Rattle.compact.specs.State.{Sound};
 ghost use Rattle.measure.specs.Ready.{Ready};
+ghost use Rattle.replies.specs.Runs.{probing, asking, Charges, TurnIs, unprobed, firstSide};
 use counters::Termination;
 use fit::Fit;
 use fit::Phase;
 use fit::Place;
 use fit::Side;
 use gradient::Probes;
+
+// Room for another count.
+const MOST_DRAWN: usize = 0x4000_0000_0000_0000;
 
 // Coordinate i and those after it: 0 where nothing is probed, up to the first that is.
 fn probe_from(t: Fit, w: Place, i: usize, area: &mut [f64]) -> Fit
@@ -99,6 +104,148 @@ fn probed(t: Fit, w: Place, i: usize, p: Probes, side: Side, v: f64, area: &mut 
         ),
         Probes::LeftOnly(l) => probed_to(t, w, i, gradient::left_quotient(x, t.trial, l, v), area),
     }
+}
+
+// ---- a run of probes
+
+// What a reply to a probe changes of a fit: the probe that is asked, the value right of it, what is charged, and the log's numbers.
+pub struct Probing {
+    pub i: usize,
+    pub side: Side,
+    pub right: f64,
+    pub nfev: usize,
+    pub drawn: usize,
+    pub entries: usize,
+    pub words: usize,
+}
+
+// A reply that leads from probe to probe, or one that is left to be taken in full.
+pub enum Turned {
+    Stays,
+    On(Probing),
+}
+
+// The fit at a probe.
+pub fn with_probe(t: Fit, w: Place, q: Probing) -> Fit
+    ensures { λ r. ⌜ r ≡ probing w q t ⌝ }
+{
+    let side = q.side;
+    let mut k = t.counters;
+    k.nfev = q.nfev;
+    k.drawn = q.drawn;
+    let mut f = fit::with_phase(t, Phase::Probe(w, q.i, side));
+    f.counters = k;
+    f.right = q.right;
+    f.entries = q.entries;
+    f.words = q.words;
+    f
+}
+
+fn is_unprobed(p: Probes) -> bool
+    ensures { λ r. ⌜ r ≡ unprobed (probesIn p) ⌝ }
+{
+    match p {
+        Probes::Neither => true,
+        Probes::Both(_, _) => false,
+        Probes::RightOnly(_) => false,
+        Probes::LeftOnly(_) => false,
+    }
+}
+
+// The side that is probed first.
+fn first_side(p: Probes) -> Side
+    ensures { λ r. ⌜ sideOf r ≡ firstSide (probesIn p) ⌝ }
+{
+    match p {
+        Probes::Neither => Side::Right,
+        Probes::Both(_, _) => Side::Right,
+        Probes::RightOnly(_) => Side::Right,
+        Probes::LeftOnly(_) => Side::Left,
+    }
+}
+
+// The next probe, of coordinate i on a side, within a budget of `most` values.
+fn asked(q: Probing, most: usize, i: usize, side: Side, right: f64) -> Probing
+    requires { ⌜ (q .nfev < most) × (q .drawn < 0x4000_0000_0000_0000) ⌝ }
+    ensures { λ r. ⌜ r ≡ asking q i side right ⌝ }
+{
+    Probing {
+        i: i,
+        side: side,
+        right: right,
+        nfev: q.nfev + 1,
+        drawn: q.drawn + 1,
+        entries: q.entries,
+        words: q.words,
+    }
+}
+
+// Component i of the gradient is v, where the next coordinate is probed.
+fn passed_to(t: Fit, q: Probing, v: f64, area: &mut [f64]) -> Turned
+    requires { ⌜ Sound (t .shape) (length (now area)) × (q .i < t .shape .n) × Charges q t ⌝ }
+    ensures { λ r. ⌜ TurnIs (λ w. probedToOf w (q .i) v) q t (now (area .entry)) r (now (area .exit)) ⌝ }
+{
+    let n = t.shape.n;
+    let j = q.i + 1;
+    if n <= j {
+        return Turned::Stays;
+    }
+    let o = t.options;
+    let eps = o.eps;
+    let scheme = o.scheme;
+    let p = question::probes_by(n, eps, scheme, area, j);
+    if is_unprobed(p) {
+        return Turned::Stays;
+    }
+    area::put(area, n, area::TRIAL_GRADIENT, q.i, v);
+    Turned::On(asked(q, t.limits.maxfev, j, first_side(p), q.right))
+}
+
+// The value v at a probe of a coordinate that is probed on both sides: right before left.
+fn both_turned(t: Fit, q: Probing, right: f64, left: f64, v: f64, area: &mut [f64]) -> Turned
+    requires { ⌜ Sound (t .shape) (length (now area)) × (q .i < t .shape .n) × Charges q t ⌝ }
+    ensures { λ r. ⌜ TurnIs (λ w. probedOf w (q .i) (both right left) (sideOf (q .side)) v) q t (now (area .entry)) r (now (area .exit)) ⌝ }
+{
+    let side = q.side;
+    match side {
+        Side::Right => Turned::On(asked(q, t.limits.maxfev, q.i, Side::Left, v)),
+        Side::Left => passed_to(t, q, gradient::both_quotient(right, left, q.right, v), area),
+    }
+}
+
+// The finite value v at a probe.
+fn probe_turned(t: Fit, q: Probing, p: Probes, v: f64, area: &mut [f64]) -> Turned
+    requires { ⌜ Sound (t .shape) (length (now area)) × (q .i < t .shape .n) × Charges q t ⌝ }
+    ensures { λ r. ⌜ TurnIs (λ w. probedOf w (q .i) (probesIn p) (sideOf (q .side)) v) q t (now (area .entry)) r (now (area .exit)) ⌝ }
+{
+    let x = area[area::TRIAL * t.shape.n + q.i];
+    match p {
+        Probes::Neither => Turned::Stays,
+        Probes::Both(r, l) => both_turned(t, q, r, l, v, area),
+        Probes::RightOnly(r) => passed_to(t, q, gradient::right_quotient(x, t.trial, r, v), area),
+        Probes::LeftOnly(l) => passed_to(t, q, gradient::left_quotient(x, t.trial, l, v), area),
+    }
+}
+
+// From a value at a probe to the next probe. All else is left: what ends the fit or completes the gradient, and coordinates that are not probed.
+pub fn next_probe(t: Fit, q: Probing, v: f64, area: &mut [f64]) -> Turned
+    requires { ⌜ Sound (t .shape) (length (now area)) × (q .i < t .shape .n) ⌝ }
+    ensures { λ r. ⌜ TurnIs (λ w. onProbe w (q .i) (sideOf (q .side)) v) q t (now (area .entry)) r (now (area .exit)) ⌝ }
+{
+    if t.limits.maxfev <= q.nfev {
+        return Turned::Stays;
+    }
+    if MOST_DRAWN <= q.drawn {
+        return Turned::Stays;
+    }
+    if !float::is_finite(v) {
+        return Turned::Stays;
+    }
+    let o = t.options;
+    let eps = o.eps;
+    let scheme = o.scheme;
+    let p = question::probes_by(t.shape.n, eps, scheme, area, q.i);
+    probe_turned(t, q, p, v, area)
 }
 
 // ---- replies

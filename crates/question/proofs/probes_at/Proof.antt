@@ -5,25 +5,7 @@ use Rattle.question.proofs.probes_at.Statement.{statement}
 use Rattle.question.proofs.probes_at.Tie as tie
 
 returns : tie.Need-returns
-returns c =
-    let s = c .before .before .before .before .before .before in
-    rw (c .probes-between .ensures) (probes-read (s .args .t) (s .args .area .now) (s .args .i) (s .pre .1))
+returns c = let s = c .before .before .before in rw (c .probes-by .ensures) (probes-read (s .args .t) (s .args .area .now) (s .args .i) (s .pre .1))
 
 pub probes-at-spec : {M : Type 1} → statement M
-probes-at-spec =
-    tie.close
-    (tie.spec
-    (λ c. search needs)
-    (λ c. search needs)
-    (λ c. search needs)
-    (λ c. search needs)
-    (λ c. search needs)
-    (λ c. search needs)
-    (λ c. search needs)
-    (λ c. search needs)
-    (λ c. search needs)
-    (λ c. search needs)
-    (λ c. search needs)
-    (λ c. search needs)
-    (λ c κs. search needs)
-    returns)
+probes-at-spec = tie.close (tie.spec (λ c κs. search needs) returns)

@@ -1,0 +1,127 @@
+-- Laws of a run of probes: each turn is the definition's answer, and the place does not count. Assumes nothing.
+use mathlib.Core.Path.{_≡_, refl, sym, ap, _∙_}
+use mathlib.Core.Bool.{true, false, true≢false}
+use mathlib.Core.List.{List}
+use Prim.Native.Nat.{ℕ, _+_, _*_, _<_}
+use borrow.Author.Tests.{lt-ltb}
+use lib.Ieee.{Float}
+use lib.Ieee.Scale.{finite}
+use Rattle.definition.specs.Vector.{word}
+use Rattle.definition.specs.Gradient.{Probes, probesAt, bothQuotient}
+use Rattle.definition.specs.Counters.{chargeValue}
+use Rattle.definition.specs.Machine as M
+use Rattle.definition.specs.Machine.{Machine, inPhase, counting, withRight}
+use Rattle.definition.specs.Driver.{askValue, withComponent, byProbes, probeFrom, probedTo, probed, onProbe}
+use Rattle.area.specs.Area.{view, putWord, Trial, Lower, Upper, TrialGradient}
+use Rattle.area.proofs.Laws.{word-view}
+use Rattle.problem.specs.Setups.{floatOf, schemeOf}
+use Rattle.gradient.specs.Probing.{probesFor}
+use Rattle.fit.specs.declared.Fit.{Fit}
+use Rattle.fit.specs.declared.Place.{Place}
+use Rattle.fit.specs.declared.Side.{Side}
+use Rattle.fit.specs.declared.Side.the-variants.{Right, Left}
+use Rattle.fit.specs.State.{placeOf, sideOf, machine, machineOf, Turns, Steps}
+use Rattle.fit.proofs.Laws.{still, steps-as}
+use Rattle.question.proofs.Laws.{probes-read}
+use Rattle.replies.specs.declared.Probing.{Probing}
+use Rattle.replies.specs.declared.Turned.{Turned}
+use Rattle.replies.specs.declared.Turned.the-variants.{Stays, On}
+use Rattle.replies.specs.Runs.{probing, asking, TurnIs, unprobed, firstSide}
+use Rattle.replies.proofs.Laws.{by-probes, component-put, finite-probed}
+
+-- ---- the next question, within the budget
+
+asks : (p : M.Phase) (m : Machine) → m .counters .nfev < m .limits .maxfev → inPhase p (counting (chargeValue (m .counters)) m) ≡ askValue p m
+unfolding askValue
+asks p m h = rw (lt-ltb (m .counters .nfev) (m .limits .maxfev) h)
+
+module _ (t : Fit) (w : Place) (q : Probing) (i : ℕ) (side : Side) (h : q .nfev < t .limits .maxfev) where
+  asked-turns : Turns (askValue (M.Phase.probe (placeOf w) i (sideOf side))) (probing w q t) (probing w (asking q i side (q .right)) t)
+  asked-turns = record {
+    shape = refl;
+    kept = record { options = refl; entries = refl; words = refl; settled = λ s. s };
+    is = λ v. asks (M.Phase.probe (placeOf w) i (sideOf side)) (machine (probing w q t) v) h;
+  }
+
+  asked-right : (x : Float)
+      → Turns (λ (m : Machine). askValue (M.Phase.probe (placeOf w) i (sideOf side)) (withRight x m)) (probing w q t) (probing w (asking q i side x) t)
+  asked-right x = record {
+    shape = refl;
+    kept = record { options = refl; entries = refl; words = refl; settled = λ s. s };
+    is = λ v. asks (M.Phase.probe (placeOf w) i (sideOf side)) (withRight x (machine (probing w q t) v)) h;
+  }
+
+-- a coordinate that is probed asks on its first side
+by-first : (w : M.Place) (j : ℕ) (m next : Machine) (p : Probes) → unprobed p ≡ false → askValue (M.Phase.probe w j (firstSide p)) m ≡ byProbes w j m next p
+by-first w j m next Probes.neither h = absurd (true≢false h)
+by-first w j m next (Probes.both r l) h = refl
+by-first w j m next (Probes.rightOnly r) h = refl
+by-first w j m next (Probes.leftOnly l) h = refl
+
+-- ---- a turn
+
+-- G does to this machine what F does
+pub turn-as : {F G : M.Place → Machine → Machine} {q : Probing} {t : Fit} {a : List Float} (r : Turned) {b : List Float} → TurnIs F q t a r b
+    → ((w : Place) → F (placeOf w) (machineOf (probing w q t) a) ≡ G (placeOf w) (machineOf (probing w q t) a)) → TurnIs G q t a r b
+turn-as Stays h e = record { is = h .is }
+turn-as (On r) h e = record { is = (h .is .0, λ w. steps-as (h .is .1 w) (e w)) }
+
+module _ (q : Probing) (t : Fit) (a : List Float) where
+  -- the component is stored, and the next coordinate is probed
+  pub component-turned : (v : Float) (p : Probes) (side : Side) (b : List Float) → q .i + 1 < t .shape .n → q .nfev < t .limits .maxfev
+      → p ≡ probesAt (machineOf t a .terms) (view a (t .shape .n) Trial) (q .i + 1) → unprobed p ≡ false → sideOf side ≡ firstSide p
+      → view b (t .shape .n) ≡ putWord (view a (t .shape .n)) TrialGradient (q .i) v
+      → TurnIs (λ w. probedTo w (q .i) v) q t a (On (asking q (q .i + 1) side (q .right))) b
+  component-turned v p side b l k e u s d = record {
+    is = (
+      l,
+      λ w.
+          let m = withComponent (q .i) v (machineOf (probing w q t) a) in
+          let n = t .shape .n in
+          let F = askValue (M.Phase.probe (placeOf w) (q .i + 1) (sideOf side)) in
+          component-put {G = probedTo (placeOf w) (q .i) v} (q .i) v (still {F = F} {G = F} (asked-turns t w q (q .i + 1) side k) refl) d
+          (ap (λ (z : M.Side). askValue (M.Phase.probe (placeOf w) (q .i + 1) z) m) s
+          ∙ by-first (placeOf w) (q .i + 1) m _ p u
+          ∙ by-probes n (placeOf w) (q .i + 1) m l e),
+    );
+  }
+
+  -- the value right of a coordinate that is probed on both sides
+  pub right-turned : (r l v : Float) → q .i < t .shape .n → q .nfev < t .limits .maxfev → q .side ≡ Right
+      → TurnIs (λ w. probed w (q .i) (Probes.both r l) (sideOf (q .side)) v) q t a (On (asking q (q .i) Left v)) a
+  right-turned r l v h k e = record {
+    is = (
+      h,
+      λ w.
+          still (asked-right t w q (q .i) Left k v)
+          (ap (λ (s : Side). probed (placeOf w) (q .i) (Probes.both r l) (sideOf s) v (machineOf (probing w q t) a)) (sym e)),
+    );
+  }
+
+  -- and the value left of it
+  pub left-turned : (r l v x : Float) (z : Turned) (b : List Float) → TurnIs (λ w. probedTo w (q .i) x) q t a z b → x ≡ bothQuotient r l (q .right) v
+      → q .side ≡ Left → TurnIs (λ w. probed w (q .i) (Probes.both r l) (sideOf (q .side)) v) q t a z b
+  left-turned r l v x z b h e d =
+      turn-as z h
+      (λ w.
+      ap (λ (c : Float). probedTo (placeOf w) (q .i) c (machineOf (probing w q t) a)) e
+      ∙ ap (λ (s : Side). probed (placeOf w) (q .i) (Probes.both r l) (sideOf s) v (machineOf (probing w q t) a)) (sym d))
+
+  -- the component is a quotient Q of the trial point and its value, with the point p and the value v of a probe
+  pub quotient-turned : (Q : Float → Float → Float → Float → Float) (p v x : Float) (z : Turned) (b : List Float) → q .i < t .shape .n
+      → TurnIs (λ w. probedTo w (q .i) x) q t a z b → x ≡ Q (word a (Trial * t .shape .n + q .i)) (t .trial) p v
+      → TurnIs (λ w m. probedTo w (q .i) (Q (word (m .trial .x) (q .i)) (m .trial .f) p v) m) q t a z b
+  quotient-turned Q p v x z b l h e =
+      turn-as z h
+      (λ w.
+      ap (λ (c : Float). probedTo (placeOf w) (q .i) c (machineOf (probing w q t) a))
+      (e ∙ ap (λ (y : Float). Q y (t .trial) p v) (word-view a (t .shape .n) Trial (q .i) l)))
+
+  -- a finite value, by what is probed
+  pub finite-turned : (v : Float) (p : Probes) (z : Turned) (b : List Float) → q .i < t .shape .n → finite v ≡ true
+      → p ≡ probesFor (floatOf (t .options .eps)) (schemeOf (t .options .scheme))
+      (word a (Trial * t .shape .n + q .i)) (word a (Lower * t .shape .n + q .i)) (word a (Upper * t .shape .n + q .i))
+      → TurnIs (λ w. probed w (q .i) p (sideOf (q .side)) v) q t a z b → TurnIs (λ w. onProbe w (q .i) (sideOf (q .side)) v) q t a z b
+  finite-turned v p z b l f e h =
+      turn-as z h
+      (λ w. finite-probed (placeOf w) (q .i) (sideOf (q .side)) v (machineOf (probing w q t) a) f (e ∙ probes-read t a (q .i) l))

@@ -1,0 +1,66 @@
+-- A run of replies to probes: what such a reply changes of a fit, and what one more of them leaves.
+use Prim.Native.Nat.{ℕ, _+_, _<_}
+use mathlib.Core.Path.{_≡_}
+use mathlib.Core.Bool.{Bool, true, false}
+use mathlib.Core.List.{List}
+use lib.Ieee.{Float}
+use Rattle.definition.specs.Gradient as G
+use Rattle.definition.specs.Machine as M
+use Rattle.fit.specs.State.{placeOf, Steps}
+use Rattle.fit.specs.declared.Fit.{Fit}
+use Rattle.fit.specs.declared.Place.{Place}
+use Rattle.fit.specs.declared.Side.{Side}
+use Rattle.fit.specs.declared.Phase.the-variants.{Probe}
+use Rattle.replies.specs.declared.Probing.{Probing}
+use Rattle.replies.specs.declared.Turned.{Turned}
+use Rattle.replies.specs.declared.Turned.the-variants.{Stays, On}
+
+-- t at the probe q of a place
+abbrev pub probing : Place → Probing → Fit → Fit
+probing w q t = record {
+  shape = t .shape;
+  options = t .options;
+  limits = t .limits;
+  counters = record { nit = t .counters .nit; nfev = q .nfev; njev = t .counters .njev; drawn = q .drawn };
+  phase = Probe w (q .i) (q .side);
+  search = t .search;
+  trials = t .trials;
+  value = t .value;
+  trial = t .trial;
+  right = q .right;
+  before = t .before;
+  theta = t .theta;
+  entries = q .entries;
+  words = q .words;
+}
+
+-- the probe asked after q, with the value right of it
+abbrev pub asking : Probing → ℕ → Side → Float → Probing
+asking q i side right = record { i = i; side = side; right = right; nfev = q .nfev + 1; drawn = q .drawn + 1; entries = q .entries; words = q .words }
+
+-- at q another value question can be charged
+pub record Charges (q : Probing) (t : Fit) : Type 0 where
+  pub left : q .nfev < t .limits .maxfev
+  pub drawn : q .drawn < 0x4000_0000_0000_0000
+
+-- nothing moves, or t at the probe q is taken through F to the next probe, for each place alike
+abbrev pub TurnBy : (M.Place → M.Machine → M.Machine) → Probing → Fit → List Float → Turned → List Float → Type 0
+TurnBy F q t a Stays b = b ≡ a
+TurnBy F q t a (On r) b = (r .i < t .shape .n) × ((w : Place) → Steps (F (placeOf w)) (probing w q t) a (probing w r t) b)
+
+pub record TurnIs (F : M.Place → M.Machine → M.Machine) (q : Probing) (t : Fit) (a : List Float) (r : Turned) (b : List Float) : Type 0 where
+  pub is : TurnBy F q t a r b
+
+-- a coordinate that is not probed
+abbrev pub unprobed : G.Probes → Bool
+unprobed G.Probes.neither = true
+unprobed (G.Probes.both r l) = false
+unprobed (G.Probes.rightOnly r) = false
+unprobed (G.Probes.leftOnly l) = false
+
+-- the side that is probed first
+abbrev pub firstSide : G.Probes → M.Side
+firstSide G.Probes.neither = M.Side.right
+firstSide (G.Probes.both r l) = M.Side.right
+firstSide (G.Probes.rightOnly r) = M.Side.right
+firstSide (G.Probes.leftOnly l) = M.Side.left
