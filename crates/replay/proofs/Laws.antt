@@ -24,13 +24,14 @@ use Rattle.problem.specs.Setups.{setupIn}
 use Rattle.search.specs.State.{Settled}
 use Rattle.fit.specs.State.{machineOf, phaseOf, Steps}
 use Rattle.fit.specs.declared.Fit.{Fit}
+use Rattle.question.specs.Reports.{Within}
 use Rattle.driver.specs.Replies.{shapeHeld, isReady, replyOf}
 use Rattle.driver.specs.declared.Reply.{Reply}
 use Rattle.driver.proofs.Laws.{ready-facts, shape-again, run-ready}
 use Rattle.replay.specs.declared.Replayed.{Replayed}
 use Rattle.replay.specs.declared.Replayed.the-variants.{Done, Refused}
 use Rattle.replay.specs.Replays.{withLog, oneMore, afterEntries, firstEntries, setupHeld, ReplayedTo, Replays}
-use Rattle.replay.specs.Taken.{replied, gradientAt, Reads, isDue, admission, Took, RefusedBy, NextIs}
+use Rattle.replay.specs.Taken.{replied, gradientAt, Reads, isDue, admission, Took, RefusedBy, NextIs, Run}
 use Rattle.replay.proofs.Entries.{reads-count, words-some, suits-replied, suits-any, due-checked, next-bad, next-undue, next-short, next-going}
 use Rattle.replay.proofs.Answers.{terms-stay}
 
@@ -99,12 +100,12 @@ module _ (t : Fit) (a : List Float) (ws : List ℕ) (room : ℕ) (here : t .word
         go false due short f g k e = rw e (record { code = inl refl; next = λ ready rs w. absurd (true≢false (sym ready ∙ f)) })
 
     -- an entry that is taken, and counted
-    pub took : {f g : Fit} {b : List Float} → Admitted t (length a) r l room → length b ≡ length a → Steps (λ (m : M.Machine). D.answer m reply) t a f b
+    pub took-by : {f g : Fit} {b : List Float} → Sound (t .shape) (length a) → shapeHeld (t .shape) (length a) ≡ true → Within (t .phase) (t .shape .n)
+        → isDue t r ≡ true → t .words + l ≤ room → length b ≡ length a → Steps (λ (m : M.Machine). D.answer m reply) t a f b
         → g ≡ withLog (f .entries + 1) (f .words + l) f → Took t a ws room g b
-    took {f} {g} {b} k size s e =
-        let ready = ready-facts t (length a) (k .ready) in
-        let sound : Sound (f .shape) (length b) = rw size (s .sound (length a) (ready .ready .sound)) in
-        let takes = takes-due ∙ k .due in
+    took-by {f} {g} {b} all held within due fits size s e =
+        let sound : Sound (f .shape) (length b) = rw size (s .sound (length a) all) in
+        let takes = takes-due ∙ due in
         let on : f .words + l ≡ t .words + l = ap (λ (w : ℕ). w + l) (s .kept .words) in
         rw e
         (record {
@@ -114,21 +115,27 @@ module _ (t : Fit) (a : List Float) (ws : List ℕ) (room : ℕ) (here : t .word
           spelled = ap (λ (w : ℕ). entryWords reply ++ drop w ws) on ∙ h .spelled;
           next =
               λ rs w.
-              next-going room ws rs (machineOf t a) (t .words) r l h here takes w (k .fits)
+              next-going room ws rs (machineOf t a) (t .words) r l h here takes w fits
               ∙ ap₂ (λ (i : ℕ) (m : M.Machine). Entries.going (drop i ws) (reply ∷ rs) m) (sym on) (sym (s .is));
           entries = ap (λ (e : ℕ). e + 1) (s .kept .entries);
           words = on ∙ ap (λ (i : ℕ). t .words + i) (sym (reads-count r h));
           last = omega (arith, on, h .within);
-          within = omega (arith, on, k .fits);
+          within = omega (arith, on, fits);
           options = s .kept .options;
           n = s .n;
           m = s .m;
-          shape = shape-again (t .shape) (f .shape) (length b) (rw size (ready .shape)) (s .n) (s .m) sound;
+          shape = shape-again (t .shape) (f .shape) (length b) (rw size held) (s .n) (s .m) sound;
           sound = sound;
           settled = s .kept .settled;
           x0 = s .x0;
-          terms = ap (λ (m : M.Machine). m .terms) (s .is) ∙ terms-stay t (view a (t .shape .n)) reply (ready .within) takes;
+          terms = ap (λ (m : M.Machine). m .terms) (s .is) ∙ terms-stay t (view a (t .shape .n)) reply within takes;
         })
+
+    pub took : {f g : Fit} {b : List Float} → Admitted t (length a) r l room → length b ≡ length a → Steps (λ (m : M.Machine). D.answer m reply) t a f b
+        → g ≡ withLog (f .entries + 1) (f .words + l) f → Took t a ws room g b
+    took k size s e =
+        let ready = ready-facts t (length a) (k .ready) in
+        took-by (ready .ready .sound) (ready .shape) (ready .within) (k .due) (k .fits) size s e
 
 -- what `replay_entry` answers, by its variant
 pub next-took : (t : Fit) (a : List Float) (ws : List ℕ) (room : ℕ) (r : Replayed) (f : Fit) (b : List Float) → r ≡ Done f → NextIs t a ws room r b → Took t a ws room f b
@@ -231,6 +238,11 @@ reached-more {t} {f} {g} {a} {b} {d} h l size k = record {
   within = k .within;
   is = λ s c o e. replayed-more (h .is s c o e) k;
 }
+
+pub reached-run : {t f g : Fit} {a b d : List Float} {ws : List ℕ} {limit room : ℕ}
+    → Reached t a ws limit room f b → Run ws limit room f b g d → Reached t a ws limit room g d
+reached-run h Run.begun = h
+reached-run h (Run.taken f b g d r l size k) = reached-more (reached-run h r) l size k
 
 -- ---- the end
 

@@ -17,6 +17,11 @@ use Rattle.compact.specs.State.{Sound}
 use Rattle.search.specs.State.{Settled}
 use Rattle.fit.specs.State.{machineOf, phaseOf}
 use Rattle.fit.specs.declared.Fit.{Fit}
+use Rattle.fit.specs.declared.Place.{Place}
+use Rattle.replies.specs.declared.Probing.{Probing}
+use Rattle.replies.specs.declared.Turned.{Turned}
+use Rattle.replies.specs.declared.Turned.the-variants.{Stays, On}
+use Rattle.replies.specs.Runs.{probing}
 use Rattle.driver.specs.Replies.{shapeHeld, isReady}
 use Rattle.driver.specs.declared.Reply.{Reply}
 use Rattle.driver.specs.declared.Reply.the-variants as R
@@ -110,3 +115,23 @@ pub record RefusedBy (t : Fit) (a : List Float) (ws : List ℕ) (room c : ℕ) :
 abbrev pub NextIs : Fit → List Float → List ℕ → ℕ → Replayed → List Float → Type 0
 NextIs t a ws room (Done f) b = Took t a ws room f b
 NextIs t a ws room (Refused c) b = RefusedBy t a ws room c
+
+-- ---- a run of entries
+
+-- f with the area b is t with the area a taken through some entries, none past the limit
+pub data Run (ws : List ℕ) (limit room : ℕ) (t : Fit) (a : List Float) : Fit → List Float → Type 0 where
+  begun : Run ws limit room t a t a
+  taken : (f : Fit) (b : List Float) (g : Fit) (d : List Float) → Run ws limit room t a f b → f .entries < limit → length d ≡ length b → Took f b ws room g d
+      → Run ws limit room t a g d
+
+-- another number of entries kept, and of their words, at a probe
+abbrev pub logged : ℕ → ℕ → Probing → Probing
+logged entries words q = record { i = q .i; side = q .side; right = q .right; nfev = q .nfev; drawn = q .drawn; entries = entries; words = words }
+
+-- the entry at the probe q of t is left, or it is taken and the next probe is asked, for each place alike
+abbrev pub TakenBy : Fit → Probing → List Float → List ℕ → ℕ → ℕ → Turned → List Float → Type 0
+TakenBy t q a ws limit room Stays b = b ≡ a
+TakenBy t q a ws limit room (On r) b = (r .i < t .shape .n) × (q .entries < limit) × ((w : Place) → Took (probing w q t) a ws room (probing w r t) b)
+
+pub record TakenIs (t : Fit) (q : Probing) (a : List Float) (ws : List ℕ) (limit room : ℕ) (r : Turned) (b : List Float) : Type 0 where
+  pub is : TakenBy t q a ws limit room r b

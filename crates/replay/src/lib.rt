@@ -10,11 +10,17 @@ ghost use Rattle.definition.specs.Driver.{answer};
 ghost use Rattle.definition.specs.Record.{wordsOf};
 ghost use Rattle.area.specs.Area.{view, upd, TrialGradient};
 ghost use Rattle.fit.specs.State.{Steps};
-ghost use Rattle.driver.specs.Replies.{isReady, mostWords};
+ghost use Rattle.compact.specs.State.{Sound};
+ghost use Rattle.replies.specs.Runs.{probing};
+ghost use Rattle.driver.specs.Replies.{shapeHeld, isReady, mostWords};
 ghost use Rattle.replay.specs.Replays.{sourceWords, Within, withLog, Replays};
-ghost use Rattle.replay.specs.Taken.{replied, sizeOf, kindReply, gradientAt, EntryIs, isDue, admission, NextIs};
+ghost use Rattle.replay.specs.Taken.{replied, sizeOf, kindReply, gradientAt, EntryIs, isDue, admission, NextIs, Run, TakenIs};
 use driver::Reply;
 use fit::Fit;
+use fit::Phase;
+use fit::Place;
+use replies::Probing;
+use replies::Turned;
 
 // Where entries stand: the first words of a log, or words of a record from a byte on.
 pub struct Source {
@@ -196,6 +202,106 @@ fn replay_entry(
     Replayed::Done(counted(f, length))
 }
 
+// ---- a run of probes
+
+// The entry at the probe q, where it leads to the next probe.
+fn probe_entry(
+    t: Fit,
+    q: Probing,
+    area: &mut [f64],
+    s: Source,
+    log: &[u64],
+    input: &[u8],
+    limit: usize,
+    room: usize,
+) -> Turned
+    requires { ⌜ Within s (now log) (now input) × (q .words < s .words) × (t .shape .n ≤ 64) × Sound (t .shape) (length (now area)) × (shapeHeld (t .shape) (length (now area)) ≡ true) × (q .i < t .shape .n) ⌝ }
+    ensures { λ r. ⌜ TakenIs t q (now (area .entry)) (sourceWords s (now (log .entry)) (now (input .entry))) limit room r (now (area .exit)) ⌝ }
+{
+    let entry = entry_at(t.shape.n, s, log, input, q.words);
+    let Entry::Is(r, length) = entry else {
+        return Turned::Stays;
+    };
+    let Reply::Value(v) = r else {
+        return Turned::Stays;
+    };
+    if limit <= q.entries {
+        return Turned::Stays;
+    }
+    if room < q.words {
+        return Turned::Stays;
+    }
+    if room - q.words < length {
+        return Turned::Stays;
+    }
+    let next = replies::next_probe(t, q, float::word_to_float(v), area);
+    let Turned::On(p) = next else {
+        return Turned::Stays;
+    };
+    let mut f = p;
+    f.entries = q.entries + 1;
+    f.words = q.words + length;
+    Turned::On(f)
+}
+
+// Entries that lead from probe to probe, from the probe `first` on; the fit is put together once, at the end.
+fn run_probes(
+    t: Fit,
+    w: Place,
+    first: Probing,
+    area: &mut [f64],
+    s: Source,
+    log: &[u64],
+    input: &[u8],
+    limit: usize,
+    room: usize,
+) -> Fit
+    requires { ⌜ Within s (now log) (now input) × (t .shape .n ≤ 64) × Sound (t .shape) (length (now area)) × (shapeHeld (t .shape) (length (now area)) ≡ true) × (first .i < t .shape .n) × (t ≡ probing w first t) ⌝ }
+    ensures { λ r. ⌜ Run (sourceWords s (now (log .entry)) (now (input .entry))) limit room t (now (area .entry)) r (now (area .exit)) ⌝ }
+{
+    let mut q = first;
+    while q.words < s.words {
+        let next = probe_entry(t, q, area, s, log, input, limit, room);
+        let Turned::On(p) = next else {
+            return replies::with_probe(t, w, q);
+        };
+        q = p;
+    }
+    replies::with_probe(t, w, q)
+}
+
+// The entries that lead from probe to probe, where a probe is asked.
+fn after_probes(
+    t: Fit,
+    area: &mut [f64],
+    s: Source,
+    log: &[u64],
+    input: &[u8],
+    limit: usize,
+    room: usize,
+) -> Fit
+    requires { ⌜ Within s (now log) (now input) × (t .shape .n ≤ 64) × Sound (t .shape) (length (now area)) × (shapeHeld (t .shape) (length (now area)) ≡ true) ⌝ }
+    ensures { λ r. ⌜ Run (sourceWords s (now (log .entry)) (now (input .entry))) limit room t (now (area .entry)) r (now (area .exit)) ⌝ }
+{
+    let phase = t.phase;
+    let Phase::Probe(w, i, side) = phase else {
+        return t;
+    };
+    if t.shape.n <= i {
+        return t;
+    }
+    let q = Probing {
+        i: i,
+        side: side,
+        right: t.right,
+        nfev: t.counters.nfev,
+        drawn: t.counters.drawn,
+        entries: t.entries,
+        words: t.words,
+    };
+    run_probes(t, w, q, area, s, log, input, limit, room)
+}
+
 // At most `limit` entries, from the first on.
 pub fn replay(
     t: Fit,
@@ -218,7 +324,7 @@ pub fn replay(
         let Replayed::Done(g) = next else {
             return next;
         };
-        f = g;
+        f = after_probes(g, area, s, log, input, limit, room);
     }
     Replayed::Done(f)
 }

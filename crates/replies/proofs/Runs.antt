@@ -11,7 +11,7 @@ use Rattle.definition.specs.Gradient.{Probes, probesAt, bothQuotient}
 use Rattle.definition.specs.Counters.{chargeValue}
 use Rattle.definition.specs.Machine as M
 use Rattle.definition.specs.Machine.{Machine, inPhase, counting, withRight}
-use Rattle.definition.specs.Driver.{askValue, withComponent, byProbes, probeFrom, probedTo, probed, onProbe}
+use Rattle.definition.specs.Driver.{askValue, withComponent, byProbes, probedTo, probed, onProbe}
 use Rattle.area.specs.Area.{view, putWord, Trial, Lower, Upper, TrialGradient}
 use Rattle.area.proofs.Laws.{word-view}
 use Rattle.problem.specs.Setups.{floatOf, schemeOf}
@@ -20,7 +20,7 @@ use Rattle.fit.specs.declared.Fit.{Fit}
 use Rattle.fit.specs.declared.Place.{Place}
 use Rattle.fit.specs.declared.Side.{Side}
 use Rattle.fit.specs.declared.Side.the-variants.{Right, Left}
-use Rattle.fit.specs.State.{placeOf, sideOf, machine, machineOf, Turns, Steps}
+use Rattle.fit.specs.State.{placeOf, sideOf, machine, machineOf, Turns}
 use Rattle.fit.proofs.Laws.{still, steps-as}
 use Rattle.question.proofs.Laws.{probes-read}
 use Rattle.replies.specs.declared.Probing.{Probing}

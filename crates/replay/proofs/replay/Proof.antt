@@ -7,7 +7,8 @@ use native.Mathlib.Omega.{arith}
 use borrow.Author.Needs.{needs}
 use Rattle.replay.specs.Replays.{sourceWords}
 use Rattle.replay.proofs.Words.{source-count}
-use Rattle.replay.proofs.Laws.{Reached, reached-first, reached-more, reached-done, reached-refused, next-took, took-more}
+use Rattle.replay.proofs.Laws.{Reached, reached-first, reached-more, reached-run, reached-done, reached-refused, next-took, took-more}
+use Rattle.replay.proofs.Runs.{run-least}
 use Rattle.replay.proofs.replay.Statement.{statement}
 use Rattle.replay.proofs.replay.Tie as tie
 
@@ -29,16 +30,21 @@ replay-entry-requires c κs = let h = c .before .before .before .before .before 
 returns-2 : tie.Need-returns-2 Inv-loop μ-loop
 returns-2 c = reached-refused _ (c .enum-told .given .1) (c .before .before .before .before .before .before .before .before .before .before .before .loop .inv) (c .before .before .before .before .before .before .if2 .left) (c .before .before .before .area .given) (c .before .before .before .before .replay-entry .ensures)
 
+after-probes-requires : tie.Need-after-probes-requires Inv-loop μ-loop
+after-probes-requires c κs =
+    let h = c .before .before .before .before .before .before .before .before .before .before .before .before .before .loop .inv in
+    let k = next-took _ _ _ _ _ _ _ (c .before .before .next .given .1) (c .before .before .before .before .before .before .replay-entry .ensures) in
+    (c .before .before .before .before .before .before .before .before .before .before .before .before .before .before .before .before .before .pre .0, omega (arith, k .n, h .n, h .small), k .sound, k .shape)
+
 loop-less : tie.Need-loop-less Inv-loop μ-loop
 loop-less c =
-    let at = c .before .before .before .before .before .before .before .before .before .before .before .before .before .before .before .before in
-    let a = at .args in
-    let k = next-took _ _ _ _ _ _ _ (c .before .next .given .1) (c .before .before .before .before .before .replay-entry .ensures) in
-    omega (arith, took-more k, k .last, source-count (a .s) (now (a .log)) (now (a .input)) (at .pre .0))
+    let k = next-took _ _ _ _ _ _ _ (c .before .before .before .before .before .next .given .1) (c .before .before .before .before .before .before .before .before .before .replay-entry .ensures) in
+    omega (arith, took-more k, run-least (c .before .before .after-probes .ensures), c .before .before .before .before .before .before .before .before .before .before .before .before .before .if1 .taken)
 
 loop-again : tie.Need-loop-again Inv-loop μ-loop
 loop-again c =
-    reached-more (c .before .before .before .before .before .before .before .before .before .before .before .before .loop .inv) (c .before .before .before .before .before .before .before .if2 .left) (c .before .before .before .before .area .given) (next-took _ _ _ _ _ _ _ (c .before .next .given .1) (c .before .before .before .before .before .replay-entry .ensures))
+    let k = next-took _ _ _ _ _ _ _ (c .before .before .before .before .before .next .given .1) (c .before .before .before .before .before .before .before .before .before .replay-entry .ensures) in
+    reached-run (reached-more (c .before .before .before .before .before .before .before .before .before .before .before .before .before .before .before .before .loop .inv) (c .before .before .before .before .before .before .before .before .before .before .before .if2 .left) (c .before .before .before .before .before .before .before .before .area .given) k) (c .before .before .after-probes .ensures)
 
 returns-3 : tie.Need-returns-3 Inv-loop μ-loop
 returns-3 c =
@@ -61,6 +67,7 @@ replay-spec =
     (λ c. search needs)
     (λ c. c .before .before .before .area .given ∙ c .before .before .before .before .before .before .before .before .before .before .before .loop .inv .size)
     returns-2
+    after-probes-requires
     loop-less
     loop-again
     (λ c. c .before .before .before .loop .inv .size)
