@@ -1,3 +1,4 @@
 pub mod Laws
 pub mod Makes
 pub mod Ends
+pub mod Grid

@@ -1,22 +1,23 @@
 -- The minimum over the free coordinates of the Cauchy point, and the direction to the chosen end, read off the area.
-use Prim.Native.Nat.{ℕ, _*_}
+use Prim.Native.Nat.{ℕ, _*_, _<_}
 use mathlib.Core.Path.{_≡_}
 use mathlib.Core.Bool.{Bool, cond, _&&_}
 use mathlib.Core.List.{List}
 use mathlib.Core.Option.{Option, none, some}
+use lib.ListN.{length}
 use lib.Ieee as Ieee
 use lib.Ieee.{Float}
 use Rattle.definition.specs.Number.{plus, minus, times, over, min, clamp, zero64}
-use Rattle.definition.specs.Vector.{tab, word, difference}
+use Rattle.definition.specs.Vector.{tab, word, foldTo, difference}
 use Rattle.definition.specs.Problem.{Bounds}
-use Rattle.definition.specs.Solve.{solve}
-use Rattle.definition.specs.Compact.{count, paddedRows, product}
+use Rattle.definition.specs.Solve.{Matrix, row, entry, put, solve}
+use Rattle.definition.specs.Compact.{count, padded, zeroRow, paddedRows, product}
 use Rattle.definition.specs.Geometry.{anyFree, freeSum, reducedEntry, reducedRight, correction, stepsOf, shareOf, moved, movedBy, onFree, primalMinimize}
 use Rattle.definition.specs.Machine.{state}
 use Rattle.definition.specs.Driver.{Ends, chosenEnd}
 use Rattle.area.specs.Area.{Vecs, upd, given, ScratchOnly, X, G, Lower, Upper, Direction, Cauchy, Target, ProductD, Step}
 use Rattle.compact.specs.declared.Shape.{Shape}
-use Rattle.compact.specs.State.{compactOf}
+use Rattle.compact.specs.State.{columnSlot, compactOf}
 
 -- ---- from the words at one index
 
@@ -27,6 +28,10 @@ freeIn w = Ieee.lt (w Lower) (w Cauchy) && Ieee.lt (w Cauchy) (w Upper)
 -- the sum s, and the product of two vectors where the coordinate is free
 abbrev pub freeTerm : ℕ → ℕ → (ℕ → Float) → Float → Float
 freeTerm p q w s = cond (freeIn w) (plus s (times (w p) (w q))) s
+
+-- the columns' words
+abbrev pub columnsIn : Shape → (ℕ → Float) → List Float
+columnsIn h w = padded zero64 (2 * h .pairs) (λ j. w (columnSlot h j))
 
 -- the step that the residual asks for, and with what the columns add to it
 abbrev pub plainIn : Float → (ℕ → Float) → Float
@@ -50,6 +55,44 @@ movedIn alpha w = cond (freeIn w) (clamp (plus (w Cauchy) (times alpha (w Step))
 -- the chosen end less x
 abbrev pub headIn : Float → (ℕ → Float) → Float
 headIn slope w = minus (cond (Ieee.le zero64 slope) (w Cauchy) (w Target)) (w X)
+
+-- ---- matrices of size rows and columns in an array of 32 rows of 32
+
+abbrev pub grid : ℕ → (ℕ → ℕ → Float) → Matrix
+grid size f = padded zeroRow size (λ i. padded zero64 size (f i))
+
+-- each entry x of row i, in column j, becomes f j x; and each of every row, f i j x
+unfoldable pub rowEach : ℕ → (ℕ → Float → Float) → ℕ → Matrix → Matrix
+rowEach size f i a = foldTo size (λ j c. put c i j (f j (entry c i j))) a
+
+unfoldable pub each : ℕ → (ℕ → ℕ → Float → Float) → Matrix → Matrix
+each size f a = foldTo size (λ i c. rowEach size (f i) i c) a
+
+-- the sum x, and the product of two words of r
+abbrev pub productTo : List Float → ℕ → ℕ → Float → Float
+productTo r i j x = plus x (times (word r i) (word r j))
+
+-- the sum x, and those products for four rows in turn
+abbrev pub fourTo : Matrix → ℕ → ℕ → Float → Float
+fourTo p i j x = productTo (row p 3) i j (productTo (row p 2) i j (productTo (row p 1) i j (productTo (row p 0) i j x)))
+
+-- the sums a, and the products of any two words of each of the first c rows of p
+abbrev pub addRows : ℕ → Matrix → ℕ → Matrix → Matrix
+addRows size p c a = foldTo c (λ t b. each size (productTo (row p t)) b) a
+
+-- sums a, to which c of the four rows of p are to be added yet
+pub record Held (size : ℕ) (p : Matrix) (c : ℕ) (a : Matrix) : Type 0 where
+  pub few : c < 4
+  pub four : length p ≡ 4
+  pub shaped : a ≡ grid size (entry a)
+
+-- the sums a, and the products of any two columns where the coordinate is free
+abbrev pub addFree : Shape → (ℕ → Float) → Matrix → Matrix
+addFree h w a = cond (freeIn w) (each (2 * h .pairs) (productTo (columnsIn h w)) a) a
+
+-- the block's entry, less the sum x by theta
+abbrev pub reducedBy : Float → Matrix → ℕ → ℕ → Float → Float
+reducedBy theta b i j x = minus (entry b i j) (over x theta)
 
 -- ---- the definition's, at the vectors of the area
 

@@ -5,12 +5,12 @@ ghost use Prim.Native.Nat.{ℕ, _+_, _*_, _≤_, _<_};
 ghost use lib.ListN.{length};
 ghost use lib.Ieee as Ieee;
 ghost use lib.Ieee.{Float};
-ghost use Rattle.definition.specs.Number.{plus, times, zero64};
+ghost use Rattle.definition.specs.Number.{plus, times, zero64, negZero};
 ghost use Rattle.definition.specs.Compact.{padded, paddedRows};
 ghost use Rattle.area.specs.Area.{view, upd, wordsAt, rowwise, Target, ProductD, ProductZ, Step, G};
 ghost use Rattle.solve.specs.Answers.{answerOf};
-ghost use Rattle.compact.specs.State.{compactOf, Sound, Laid, Modelled, Prepared};
-ghost use Rattle.subspace.specs.State.{freeIn, freeTerm, plainIn, weightedIn, shortenedIn, shareIn, movedIn, headIn, headed, Makes, Minimizes};
+ghost use Rattle.compact.specs.State.{compactOf, columnSlot, Sound, Laid, Modelled, Prepared};
+ghost use Rattle.subspace.specs.State.{freeIn, freeTerm, columnsIn, grid, rowEach, each, productTo, fourTo, addRows, Held, addFree, reducedBy, plainIn, weightedIn, shortenedIn, shareIn, movedIn, headIn, headed, Makes, Minimizes};
 ghost use Rattle.subspace.specs.State.{anyFreeAt, freeSumAt, reducedAt, rightAt, weightsAt, residualAt, correctionsAt, stepsAt, shareAt, movedAt, movedByAt, onFreeAt, minimumAt};
 
 // ---- free coordinates
@@ -115,42 +115,167 @@ fn residual(
 
 // ---- the reduced system
 
-// Entry i, j of the block, less the product of the two columns over the free coordinates, by theta.
-fn reduced_entry(
-    area: &[f64],
-    h: compact::Shape,
-    theta: f64,
-    block: &[[f64; 32]; 32],
-    i: usize,
-    j: usize,
-) -> f64
-    requires { ⌜ Sound h (length (now area)) × Modelled h theta (now block) (view (now area) (h .n)) × (i < 2 * h .pairs) × (j < 2 * h .pairs) ⌝ }
-    ensures { λ r. ⌜ r ≡ reducedAt h theta (view (now (area .entry)) (h .n)) i j ⌝ }
+// Row i of the sums where there is no term: -0.0 in the first size places.
+fn start_row(size: usize) -> [f64; 32]
+    requires { ⌜ size ≤ 32 ⌝ }
+    ensures { λ r. ⌜ r ≡ padded zero64 size (λ j. negZero) ⌝ }
 {
-    let columns = 16 + 2 * h.m;
-    let s = free_sum(area, h.n, columns + i, columns + j);
-    block[i][j] - s / theta
+    let mut r = compact::zeros();
+    let mut j = 0;
+    while j < size {
+        r[j] = float::NEG_ZERO;
+        j += 1;
+    }
+    r
 }
 
-// Row i of the reduced matrix.
-fn reduced_row(
-    area: &[f64],
-    h: compact::Shape,
-    theta: f64,
-    block: &[[f64; 32]; 32],
-    i: usize,
-) -> [f64; 32]
-    requires { ⌜ Sound h (length (now area)) × Modelled h theta (now block) (view (now area) (h .n)) × (i < 2 * h .pairs) ⌝ }
-    ensures { λ r. ⌜ r ≡ padded zero64 (2 * h .pairs) (reducedAt h theta (view (now (area .entry)) (h .n)) i) ⌝ }
+// The sums where there is no term.
+fn start(size: usize) -> [[f64; 32]; 32]
+    requires { ⌜ size ≤ 32 ⌝ }
+    ensures { λ r. ⌜ r ≡ grid size (λ i j. negZero) ⌝ }
+{
+    let r = start_row(size);
+    let mut a = compact::zero_rows();
+    let mut i = 0;
+    while i < size {
+        a[i] = r;
+        i += 1;
+    }
+    a
+}
+
+// The words of the columns at coordinate k.
+fn gather(area: &[f64], h: compact::Shape, k: usize) -> [f64; 32]
+    requires { ⌜ Sound h (length (now area)) × (k < h .n) ⌝ }
+    ensures { λ r. ⌜ r ≡ columnsIn h (wordsAt (now (area .entry)) (h .n) k) ⌝ }
 {
     let size = 2 * h.pairs;
     let mut r = compact::zeros();
     let mut j = 0;
     while j < size {
-        r[j] = reduced_entry(area, h, theta, block, i, j);
+        r[j] = area::get(area, h.n, 16 + 2 * h.m + j, k);
         j += 1;
     }
     r
+}
+
+// Row i of the sums, and the products of r with its word i.
+fn add_products(a: &mut [[f64; 32]; 32], size: usize, r: &[f64; 32], i: usize)
+    requires { ⌜ (i < size) × (size ≤ 32) ⌝ }
+    ensures { λ _. ⌜ now (a .exit) ≡ rowEach size (productTo (now (r .entry)) i) i (now (a .entry)) ⌝ }
+{
+    let mut j = 0;
+    while j < size {
+        a[i][j] = a[i][j] + r[i] * r[j];
+        j += 1;
+    }
+}
+
+// The sums, and the products of any two words of r.
+fn add_row(a: &mut [[f64; 32]; 32], size: usize, r: &[f64; 32])
+    requires { ⌜ size ≤ 32 ⌝ }
+    ensures { λ _. ⌜ now (a .exit) ≡ each size (productTo (now (r .entry))) (now (a .entry)) ⌝ }
+{
+    let mut i = 0;
+    while i < size {
+        add_products(a, size, r, i);
+        i += 1;
+    }
+}
+
+// Row i of the sums, and the products of each of the four rows of p with its word i.
+fn add_four(a: &mut [[f64; 32]; 32], size: usize, p: &[[f64; 32]; 4], i: usize)
+    requires { ⌜ (i < size) × (size ≤ 32) ⌝ }
+    ensures { λ _. ⌜ now (a .exit) ≡ rowEach size (fourTo (now (p .entry)) i) i (now (a .entry)) ⌝ }
+{
+    let mut j = 0;
+    while j < size {
+        a[i][j] = a[i][j]
+            + p[0][i] * p[0][j]
+            + p[1][i] * p[1][j]
+            + p[2][i] * p[2][j]
+            + p[3][i] * p[3][j];
+        j += 1;
+    }
+}
+
+// The sums, and the products of any two words of each of the four rows of p: a sum is loaded and stored once for the four.
+fn add_fours(a: &mut [[f64; 32]; 32], size: usize, p: &[[f64; 32]; 4])
+    requires { ⌜ size ≤ 32 ⌝ }
+    ensures { λ _. ⌜ now (a .exit) ≡ each size (fourTo (now (p .entry))) (now (a .entry)) ⌝ }
+{
+    let mut i = 0;
+    while i < size {
+        add_four(a, size, p, i);
+        i += 1;
+    }
+}
+
+// The sums, and the products of any two words of each of the first count rows of p.
+fn add_rest(a: &mut [[f64; 32]; 32], size: usize, p: &[[f64; 32]; 4], count: usize)
+    requires { ⌜ (size ≤ 32) × (count < 4) ⌝ }
+    ensures { λ _. ⌜ now (a .exit) ≡ addRows size (now (p .entry)) count (now (a .entry)) ⌝ }
+{
+    let mut t = 0;
+    while t < count {
+        let r = p[t];
+        add_row(a, size, &r);
+        t += 1;
+    }
+}
+
+// The columns at coordinate k become row count of p where it is free, and four rows are added to the sums; how many are left.
+fn push(
+    a: &mut [[f64; 32]; 32],
+    p: &mut [[f64; 32]; 4],
+    count: usize,
+    area: &[f64],
+    h: compact::Shape,
+    k: usize,
+) -> usize
+    requires { ⌜ Sound h (length (now area)) × (k < h .n) × Held (2 * h .pairs) (now p) count (now a) ⌝ }
+    ensures { λ r. ⌜ Held (2 * h .pairs) (now (p .exit)) r (now (a .exit)) × (addRows (2 * h .pairs) (now (p .exit)) r (now (a .exit)) ≡ addFree h (wordsAt (now (area .entry)) (h .n) k) (addRows (2 * h .pairs) (now (p .entry)) count (now (a .entry)))) ⌝ }
+{
+    if !is_free(area, h.n, k) {
+        return count;
+    }
+    let r = gather(area, h, k);
+    p[count] = r;
+    if count < 3 {
+        return count + 1;
+    }
+    add_fours(a, 2 * h.pairs, p);
+    0
+}
+
+// The products of any two columns over the free coordinates.
+fn sums(area: &[f64], h: compact::Shape) -> [[f64; 32]; 32]
+    requires { ⌜ Sound h (length (now area)) ⌝ }
+    ensures { λ r. ⌜ r ≡ grid (2 * h .pairs) (λ i j. freeSumAt (h .n) (view (now (area .entry)) (h .n)) (columnSlot h i) (columnSlot h j)) ⌝ }
+{
+    let mut a = start(2 * h.pairs);
+    let z = compact::zeros();
+    let mut p = [z; 4];
+    let mut count = 0;
+    let mut k = 0;
+    while k < h.n {
+        count = push(&mut a, &mut p, count, area, h, k);
+        k += 1;
+    }
+    add_rest(&mut a, 2 * h.pairs, &p, count);
+    a
+}
+
+// Row i of the sums becomes that of the block, less the sums by theta.
+fn reduce_row(a: &mut [[f64; 32]; 32], block: &[[f64; 32]; 32], theta: f64, size: usize, i: usize)
+    requires { ⌜ (i < size) × (size ≤ 32) ⌝ }
+    ensures { λ _. ⌜ now (a .exit) ≡ rowEach size (reducedBy theta (now (block .entry)) i) i (now (a .entry)) ⌝ }
+{
+    let mut j = 0;
+    while j < size {
+        a[i][j] = block[i][j] - a[i][j] / theta;
+        j += 1;
+    }
 }
 
 // The reduced matrix, 2 rows and columns for each pair.
@@ -159,14 +284,13 @@ fn reduced(area: &[f64], h: compact::Shape, theta: f64, block: &[[f64; 32]; 32])
     ensures { λ r. ⌜ r ≡ paddedRows (compactOf h theta (view (now (area .entry)) (h .n))) (reducedAt h theta (view (now (area .entry)) (h .n))) ⌝ }
 {
     let size = 2 * h.pairs;
-    let mut b = compact::zero_rows();
+    let mut a = sums(area, h);
     let mut i = 0;
     while i < size {
-        let r = reduced_row(area, h, theta, block, i);
-        b[i] = r;
+        reduce_row(&mut a, block, theta, size, i);
         i += 1;
     }
-    b
+    a
 }
 
 // The columns' products with the residual over the free coordinates.

@@ -1,0 +1,67 @@
+-- `subspace::add_four` meets its contract: the first j entries are done. Assumes nothing.
+use Prim.Native.Nat.{_-_}
+use Rattle.definition.specs.Solve.{entry, put}
+use Rattle.area.proofs.Laws.{Looped, looped-none, laws}
+use Rattle.subspace.specs.State.{rowEach, fourTo}
+use Rattle.subspace.proofs.add_four.Statement.{statement}
+use Rattle.subspace.proofs.add_four.Tie as tie
+
+abbrev Inv-loop : tie.InvT-loop
+Inv-loop a₀ size p i j₀ a j = Looped size (λ j c. put c i j (fourTo p i j (entry c i j))) a₀ a j
+
+abbrev μ-loop : tie.MeasureT-loop
+μ-loop a₀ size p i j₀ a j = size - j
+
+loop-holds : tie.Need-loop-holds Inv-loop μ-loop
+loop-holds c = looped-none
+
+loop-again : tie.Need-loop-again Inv-loop μ-loop
+loop-again c = search laws
+
+returns : tie.Need-returns Inv-loop μ-loop
+unfolding rowEach
+returns c = search laws
+
+pub add-four-spec : {M : Type 1} → statement M
+add-four-spec =
+    tie.close
+    (tie.spec
+    Inv-loop
+    μ-loop
+    loop-holds
+    (λ c. search laws)
+    (λ c. search laws)
+    (λ c. search laws)
+    (λ c. search laws)
+    (λ c. search laws)
+    (λ c. search laws)
+    (λ c. search laws)
+    (λ c. search laws)
+    (λ c. search laws)
+    (λ c. search laws)
+    (λ c. search laws)
+    (λ c. search laws)
+    (λ c. search laws)
+    (λ c. search laws)
+    (λ c. search laws)
+    (λ c. search laws)
+    (λ c. search laws)
+    (λ c. search laws)
+    (λ c. search laws)
+    (λ c. search laws)
+    (λ c. search laws)
+    (λ c. search laws)
+    (λ c. search laws)
+    (λ c. search laws)
+    (λ c. search laws)
+    (λ c. search laws)
+    (λ c. search laws)
+    (λ c. search laws)
+    (λ c. search laws)
+    (λ c. search laws)
+    (λ c. search laws)
+    (λ c. search laws)
+    (λ c. search laws)
+    (λ c. search laws)
+    loop-again
+    returns)

@@ -1,0 +1,35 @@
+-- `subspace::add_fours` meets its contract: the first i rows are done. Assumes nothing.
+use Prim.Native.Nat.{_-_}
+use Rattle.area.proofs.Laws.{Looped, looped-none, laws}
+use Rattle.subspace.specs.State.{rowEach, each, fourTo}
+use Rattle.subspace.proofs.add_fours.Statement.{statement}
+use Rattle.subspace.proofs.add_fours.Tie as tie
+
+abbrev Inv-loop : tie.InvT-loop
+Inv-loop a₀ size p i₀ a i = Looped size (λ i c. rowEach size (fourTo p i) i c) a₀ a i
+
+abbrev μ-loop : tie.MeasureT-loop
+μ-loop a₀ size p i₀ a i = size - i
+
+loop-holds : tie.Need-loop-holds Inv-loop μ-loop
+loop-holds c = looped-none
+
+loop-again : tie.Need-loop-again Inv-loop μ-loop
+loop-again c = search laws
+
+returns : tie.Need-returns Inv-loop μ-loop
+unfolding each
+returns c = search laws
+
+pub add-fours-spec : {M : Type 1} → statement M
+add-fours-spec =
+    tie.close
+    (tie.spec
+    Inv-loop
+    μ-loop
+    loop-holds
+    (λ c κs. search laws)
+    (λ c. search laws)
+    (λ c. search laws)
+    loop-again
+    returns)
