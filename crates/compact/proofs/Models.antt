@@ -74,12 +74,6 @@ pairs-upd h a p v l = pairs-kept h a (upd a p v) (high-upd a p v l)
 pub compact-upd : (h : Shape) (theta : Float) (a : Vecs) (p : ℕ) (v : List Float) → p < 16 → compactOf h theta (upd a p v) ≡ compactOf h theta a
 compact-upd h theta a p v l = compact-kept h theta a (upd a p v) (high-upd a p v l)
 
-pub laid-upd : {h : Shape} {theta : Float} {a : Vecs} (p : ℕ) (v : List Float) → p < 16 → Laid h theta a → Laid h theta (upd a p v)
-laid-upd {a = a} p v l r = laid-kept (upd a p v) (high-upd a p v l) r
-
-pub modelled-upd : {h : Shape} {theta : Float} {m : Matrix} {a : Vecs} (p : ℕ) (v : List Float) → p < 16 → Modelled h theta m a → Modelled h theta m (upd a p v)
-modelled-upd {a = a} p v l r = modelled-kept (upd a p v) (high-upd a p v l) r
-
 pub prepared-upd : {h : Shape} {theta : Float} {ok : Bool} {t f : Matrix} {o : List ℕ} {a : Vecs} (p : ℕ) (v : List Float) → p < 16
     → Prepared h theta ok t f o a → Prepared h theta ok t f o (upd a p v)
 prepared-upd {a = a} p v l r = prepared-kept (upd a p v) (high-upd a p v l) r

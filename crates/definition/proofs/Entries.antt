@@ -26,7 +26,7 @@ module _ (room : ℕ) (rs : List Reply) (m : Machine) (rest : List ℕ) where
       → admit room ws rs m (some r) ≡ Entries.going rest (r ∷ rs) (answer m r)
   admitted r ws due fits e = rw (due, le-ltb room (length (logWords rs) + length (entryWords r)) fits, e)
 
-  entry-read : (r : Reply) → checkDue m r ≡ none → length (logWords rs) + length (entryWords r) ≤ room
+  pub entry-read : (r : Reply) → checkDue m r ≡ none → length (logWords rs) + length (entryWords r) ≤ room
       → nextEntry room (entryWords r ++ rest) rs m ≡ Entries.going rest (r ∷ rs) (answer m r)
   entry-read (Reply.value v) d f = admitted (Reply.value v) (v ∷ rest) d f refl
   entry-read (Reply.gradient ws) d f =
@@ -91,6 +91,11 @@ log-last : (r : Reply) (rs : List Reply) (rest : List ℕ) → logWords (r ∷ r
 unfolding logWords
 log-last r rs rest = append-assoc (logWords rs) (entryWords r) rest
 
+pub read-kept : (left room : ℕ) (rs : List Reply) → readEntries left room (Entries.kept rs) ≡ Entries.kept rs
+unfolding readEntries
+read-kept zero room rs = refl
+read-kept (suc left) room rs = refl
+
 module _ (s : Setup) (room : ℕ) where
   -- the log's entries read, with `rest` behind them and as many steps left
   log-read : (rs : List Reply) (left : ℕ) (rest : List ℕ) → Due s rs → length (logWords rs) ≤ room
@@ -103,11 +108,6 @@ module _ (s : Setup) (room : ℕ) where
       rw (more, log-last r rs rest)
       (log-read rs (suc left) (entryWords r ++ rest) (d .1) (omega (arith, log-more r rs)) ∙ ap (readEntries left room) (entry-read room rs (run s rs) rest r (d .0) fits))
 
-  read-kept : (left : ℕ) (rs : List Reply) → readEntries left room (Entries.kept rs) ≡ Entries.kept rs
-  unfolding readEntries
-  read-kept zero rs = refl
-  read-kept (suc left) rs = refl
-
   pub log-back : (rs : List Reply) → Due s rs → length (logWords rs) ≤ room → entriesOf s room (logWords rs) ≡ Entries.kept rs
   unfolding readEntries
   log-back rs d h =
@@ -115,7 +115,7 @@ module _ (s : Setup) (room : ℕ) where
       sym (entries-all-read s room (logWords rs) (length rs + suc left) (omega arith))
       ∙ ap (λ (ws : List ℕ). readEntries (length rs + suc left) room (Entries.going ws [] (begin s))) (sym (append-nil (logWords rs)))
       ∙ log-read rs (suc left) [] d h
-      ∙ read-kept left rs
+      ∙ read-kept left room rs
 
 -- ---- one entry read spells its words
 

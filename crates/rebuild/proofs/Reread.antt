@@ -5,42 +5,19 @@ use native.Mathlib.Omega.{arith}
 use mathlib.Core.Path.{_≡_, refl, sym, ap, ap₂, _∙_}
 use mathlib.Core.Logic.{_⊎_, ⊎-elim}
 use mathlib.Core.List.{List, [], _∷_, _++_, append-assoc, append-nil}
-use mathlib.Core.Option.{none, some}
-use lib.Dec.{ltb}
-use lib.ListN.{length, drop, length-append, length-drop}
-use lib.Seq.{take-at, drop-at, drop-length, drop-append-le}
+use lib.ListN.{length, drop, length-drop}
+use lib.Seq.{drop-length, drop-append-le}
 use lib.Ieee.{Float}
-use borrow.Author.Tests.{le-ltb}
 use Rattle.definition.specs.Problem.{Setup}
-use Rattle.definition.specs.Machine.{Reply, Machine, checkDue}
-use Rattle.definition.specs.Driver.{answer, run}
-use Rattle.definition.specs.Log.{entryWords, logWords, Entries, admit, nextEntry, readEntries, entriesOf}
+use Rattle.definition.specs.Machine.{Reply}
+use Rattle.definition.specs.Driver.{run}
+use Rattle.definition.specs.Log.{entryWords, logWords, Entries, readEntries, entriesOf}
 use Rattle.definition.specs.Replies.{Due}
-use Rattle.definition.proofs.Accepted.{due-length}
-use Rattle.definition.proofs.Entries.{log-more, log-back}
+use Rattle.definition.proofs.Entries.{log-more, log-back, entry-read, read-kept}
 use Rattle.definition.proofs.Histories.{due-struck, log-struck}
 use Rattle.fit.specs.declared.Fit.{Fit}
 use Rattle.replay.proofs.Entries.{words-some}
 use Rattle.replay.specs.Replays.{oneMore, afterEntries, firstEntries, ReplayedTo, RefusedAt}
-
--- ---- one entry, from its words
-
-module _ (room : ℕ) (rs : List Reply) (m : Machine) (rest : List ℕ) where
-  admitted : (r : Reply) (ws : List ℕ) → checkDue m r ≡ none → length (logWords rs) + length (entryWords r) ≤ room → drop (length (entryWords r) - 1) ws ≡ rest
-      → admit room ws rs m (some r) ≡ Entries.going rest (r ∷ rs) (answer m r)
-  admitted r ws due fits e = rw (due, le-ltb room (length (logWords rs) + length (entryWords r)) fits, e)
-
-  entry-read : (r : Reply) → checkDue m r ≡ none → length (logWords rs) + length (entryWords r) ≤ room
-      → nextEntry room (entryWords r ++ rest) rs m ≡ Entries.going rest (r ∷ rs) (answer m r)
-  entry-read (Reply.value v) d f = admitted (Reply.value v) (v ∷ rest) d f refl
-  entry-read (Reply.gradient ws) d f =
-      let e = due-length m ws d in
-      let long : ltb (length (ws ++ rest)) (m .terms .n) ≡ _ = le-ltb (length (ws ++ rest)) (m .terms .n) (omega (arith, length-append ws rest)) in
-      rw (long, take-at ws rest (m .terms .n) e) (admitted (Reply.gradient ws) (ws ++ rest) d f (drop-at ws rest (suc (length ws) - 1) (omega arith)))
-  entry-read Reply.notSupplied d f = admitted Reply.notSupplied rest d f refl
-  entry-read Reply.goOn d f = admitted Reply.goOn rest d f refl
-  entry-read Reply.stop d f = admitted Reply.stop rest d f refl
-  entry-read Reply.failure d f = admitted Reply.failure rest d f refl
 
 -- ---- a log, entry by entry
 
@@ -118,11 +95,6 @@ read-refused : (left room c : ℕ) → readEntries left room (Entries.refusedAt 
 unfolding readEntries
 read-refused zero room c = refl
 read-refused (suc left) room c = refl
-
-read-kept : (left room : ℕ) (rs : List Reply) → readEntries left room (Entries.kept rs) ≡ Entries.kept rs
-unfolding readEntries
-read-kept zero room rs = refl
-read-kept (suc left) room rs = refl
 
 read-one : (left room : ℕ) (e : Entries) → readEntries (suc left) room e ≡ readEntries left room (oneMore room e)
 unfolding readEntries
