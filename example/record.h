@@ -34,7 +34,7 @@ struct record {
     uint8_t bytes[RECORD_MOST_BYTES];
 };
 
-/* Each of these is false, and leaves the record as it was, where there is no room for the words and a trailer. */
+/* record_begin is false where n or maxcor is over 255, the others where there is no room for the words and a trailer. The record is then as it was. */
 bool record_begin(struct record *record, const struct setup *setup);
 bool record_add_value(struct record *record, double value);
 bool record_add_gradient(struct record *record, const double *gradient);

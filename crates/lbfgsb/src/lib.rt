@@ -1,4 +1,5 @@
 // The exported operations: any state, area, log, record and slice length, in any order. State goes in and comes back by value.
+// Each names its refusals in the order in which they are checked. A refusal changes no word, unless it says otherwise; a read changes its output alone.
 ghost use mathlib.Core.Path.{_≡_};
 ghost use mathlib.Core.List.{List};
 ghost use Prim.Native.Nat.{ℕ, _+_, _-_, _*_};
@@ -54,7 +55,8 @@ fn refusal(number: usize, first: usize) -> Refusal
 
 // ---- start, document 01's opening
 
-// A new fit from a setup, in place of what the words held.
+// A new fit from a setup, in place of what the words held. The log is not lent: its words stay until replies are kept over them.
+// Refused: 1 to 10 by the setup, 11 by the area's length.
 pub fn start(
     fit: Fit,
     area: &mut [f64],
@@ -77,7 +79,8 @@ pub fn start(
 
 // ---- reply
 
-// The reply to the open question; the words of a gradient beside it.
+// The reply to the open question; the words of a gradient beside it, which no other reply looks at. Its entry stands in the log behind the last.
+// Refused: 13 where no fit is held, it has ended or the kind is not due; 14 by the gradient's length; 12 where the log has no room for the entry.
 pub fn reply(fit: Fit, area: &mut [f64], log: &mut [u64], said: Reply, gradient: &[u64]) -> Answer
     ensures { λ r. ⌜ Replied (replied said (now (gradient .entry))) (words fit (now (area .entry)) (now (log .entry))) (words (next fit r) (now (area .exit)) (now (log .exit))) (kept r) ⌝ }
 {
@@ -103,7 +106,8 @@ fn answered(r: Replayed) -> Answer
     }
 }
 
-// The last j replies are taken back, and their words in the log zeroed.
+// The last j replies are taken back, and their words in the log zeroed; with no fit held a j of 0 is accepted and changes nothing.
+// Refused: 16 where there are fewer; 12 where the log is shorter than its entries; 17 at an entry of an altered log, and then the area is all zero.
 pub fn take_back(fit: Fit, area: &mut [f64], log: &mut [u64], j: usize) -> Answer
     ensures { λ r. ⌜ TakenBack j (words fit (now (area .entry)) (now (log .entry))) (words (next fit r) (now (area .exit)) (now (log .exit))) (kept r) ⌝ }
 {
@@ -123,7 +127,8 @@ pub fn take_back(fit: Fit, area: &mut [f64], log: &mut [u64], j: usize) -> Answe
     answered(rebuild::shorten(fit, area, log, left))
 }
 
-// Document 01's reading in: the fit of a record, in place of what the words held.
+// Document 01's reading in: the fit of a record, in place of what the words held; the record's entries are copied into the log.
+// Refused: 17, 18, 17, 1 to 10 and 11 by the record (docs/RECORD.md has each); then, entry by entry, 17 and 12, and then the area is all zero.
 pub fn restore(fit: Fit, area: &mut [f64], log: &mut [u64], input: &[u8]) -> Answer
     ensures { λ r. ⌜ Restored (now (input .entry)) (words fit (now (area .entry)) (now (log .entry))) (words (next fit r) (now (area .exit)) (now (log .exit))) (kept r) ⌝ }
 {
@@ -136,7 +141,8 @@ pub fn restore(fit: Fit, area: &mut [f64], log: &mut [u64], input: &[u8]) -> Ans
 
 // ---- reading
 
-// The open question: its kind, and its point in the output.
+// The open question: its kind, and its point in the front of the output. Nothing where no fit is held or it has ended.
+// Refused: 19 where a question is open and the output has fewer than n floats.
 pub fn question(fit: Fit, area: &[f64], out: &mut [f64]) -> Asked
     ensures { λ r. ⌜ ((l : List ℕ) → Read (Call.question (length (now (out .entry)))) (words fit (now (area .entry)) l) (asked r (fit .shape .n) (now (out .exit))) (questionAnswer (words fit (now (area .entry)) l) (length (now (out .entry)))) (now (out .entry)) (now (out .exit))) ⌝ }
 {
@@ -156,7 +162,8 @@ pub fn question(fit: Fit, area: &[f64], out: &mut [f64]) -> Asked
     Asked::Is(kind)
 }
 
-// The report, its point in the output.
+// The report, its point in the front of the output.
+// Refused: 15 where no fit is held, there is no value reply yet or the objective failed; 19 where the output has fewer than n floats.
 pub fn report(fit: Fit, area: &[f64], out: &mut [f64]) -> Told
     ensures { λ r. ⌜ ((l : List ℕ) → Read (Call.report (length (now (out .entry)))) (words fit (now (area .entry)) l) (told r (fit .shape .n) (now (out .exit))) (reportAnswer (words fit (now (area .entry)) l) (length (now (out .entry)))) (now (out .entry)) (now (out .exit))) ⌝ }
 {
@@ -175,7 +182,7 @@ pub fn report(fit: Fit, area: &[f64], out: &mut [f64]) -> Told
     Told::Is(question::outcome_of(fit))
 }
 
-// How many replies are kept.
+// How many replies are kept: 0 where no fit is held. Never refused.
 pub fn replies(fit: Fit, area: &[f64]) -> usize
     ensures { λ r. ⌜ ((l : List ℕ) → Counted r (words fit (now (area .entry)) l)) ⌝ }
 {
@@ -185,7 +192,8 @@ pub fn replies(fit: Fit, area: &[f64]) -> usize
     0
 }
 
-// The words of entry k, from 0 the oldest, in the output; none where there is no such entry.
+// The words of entry k, from 0 the oldest, in the front of the output; none where there is no such entry or no fit is held.
+// Refused: 12 where the log is shorter than its entries; 19 where the output is shorter than this one.
 pub fn entry(fit: Fit, area: &[f64], log: &[u64], k: usize, out: &mut [u64]) -> Wrote
     ensures { λ r. ⌜ Read (Call.entry k (length (now (out .entry)))) (words fit (now (area .entry)) (now (log .entry))) (entered r (now (out .exit))) (entryAnswer (words fit (now (area .entry)) (now (log .entry))) k (length (now (out .entry)))) (now (out .entry)) (now (out .exit)) ⌝ }
 {
@@ -209,7 +217,8 @@ pub fn entry(fit: Fit, area: &[f64], log: &[u64], k: usize, out: &mut [u64]) -> 
     Wrote::Is(length)
 }
 
-// The record of setup and log, in bytes; nothing where no fit is held.
+// The record of setup and log, in bytes in the front of the output; nothing where no fit is held.
+// Refused: 12 where the log is shorter than its entries; 19 where the output is shorter than the record.
 pub fn save(fit: Fit, area: &[f64], log: &[u64], out: &mut [u8]) -> Wrote
     ensures { λ r. ⌜ Read (Call.save (length (now (out .entry)))) (words fit (now (area .entry)) (now (log .entry))) (saved r (now (out .exit))) (saveAnswer (words fit (now (area .entry)) (now (log .entry))) (length (now (out .entry)))) (now (out .entry)) (now (out .exit)) ⌝ }
 {
