@@ -40,6 +40,7 @@ pub mod OneWord
 pub mod Entries
 pub mod RoundTrip
 -- history
+pub mod Numbered
 pub mod Histories
 pub mod TakenBack
 pub mod Ordered

@@ -1,10 +1,10 @@
 -- The history of a fit, document 01's book: fed the calls with their own arguments, and of area and log the lengths,
 -- it says what each call answers and what it leaves.
 use Prim.Native.Nat.{ℕ, _+_, _-_, _*_}
-use mathlib.Core.Bool.{cond}
+use mathlib.Core.Bool.{Bool, false, cond, _||_}
 use mathlib.Core.List.{List, [], _∷_}
 use mathlib.Core.Option.{Option, none, some}
-use lib.Dec.{ltb}
+use lib.Dec.{eqb, ltb}
 use lib.ListN.{length, drop, getD}
 use Rattle.definition.specs.Problem.{Setup, Refusal, Check, refuse, when, _then_, validate, dimension}
 use Rattle.definition.specs.Machine.{Reply, Question, Report, checkDue, question as questionOf, report as reportOf, unreported}
@@ -40,6 +40,35 @@ pub data Answer : Type 0 where
 pub data History : Type 0 where
   empty : History
   fit : Setup → List Reply → History
+
+-- ---- refusals by place: the numbers that document 01's table has for each call
+
+abbrev pub refusalsOf : Call → List ℕ
+refusalsOf (Call.start s) = 1 ∷ 2 ∷ 3 ∷ 4 ∷ 5 ∷ 6 ∷ 7 ∷ 8 ∷ 9 ∷ 10 ∷ 11 ∷ []
+refusalsOf (Call.restore bs) = 1 ∷ 2 ∷ 3 ∷ 4 ∷ 5 ∷ 6 ∷ 7 ∷ 8 ∷ 9 ∷ 10 ∷ 11 ∷ 12 ∷ 17 ∷ 18 ∷ []
+refusalsOf (Call.reply r) = 13 ∷ 14 ∷ 12 ∷ []
+refusalsOf (Call.takeBack j) = 16 ∷ 12 ∷ 17 ∷ []
+refusalsOf (Call.question room) = 19 ∷ []
+refusalsOf (Call.report room) = 15 ∷ 19 ∷ []
+refusalsOf Call.replies = []
+refusalsOf (Call.entry k room) = 12 ∷ 19 ∷ []
+refusalsOf (Call.save room) = 12 ∷ 19 ∷ []
+
+-- those at an entry, of a record or of an altered log: they leave the area all zero
+abbrev pub entryRefusals : Call → List ℕ
+entryRefusals (Call.start s) = []
+entryRefusals (Call.restore bs) = 17 ∷ 12 ∷ []
+entryRefusals (Call.reply r) = []
+entryRefusals (Call.takeBack j) = 17 ∷ []
+entryRefusals (Call.question room) = []
+entryRefusals (Call.report room) = []
+entryRefusals Call.replies = []
+entryRefusals (Call.entry k room) = []
+entryRefusals (Call.save room) = []
+
+abbrev pub among : ℕ → List ℕ → Bool
+among k [] = false
+among k (x ∷ xs) = eqb k x || among k xs
 
 -- ---- refusals, of a call that is no restore
 

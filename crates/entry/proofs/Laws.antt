@@ -39,7 +39,7 @@ use Rattle.lbfgsb.proofs.Asked.{the-type}
 use Rattle.lbfgsb.specs.declared.Told.{Told}
 use Rattle.lbfgsb.specs.declared.Told.the-variants as T
 use Rattle.input.specs.Input.{Taken}
-use Rattle.input.proofs.Numbered.{ReadNumbered, input-numbered}
+use Rattle.definition.proofs.Numbered.{ReadNumbered, table-numbers, input-numbered, restores}
 use Rattle.entry.specs.Entry.{Returns, HasEnded}
 
 -- ---- a point
@@ -157,8 +157,8 @@ module _ (a : List Float) (l : List ℕ) where
 
   few : (d : Reading) (c : Refusal) → ReadNumbered d → Taken d (A.Refused c) a l → c .number ≤ 19
   few (Reading.accepted s rs) c n h = absurd h
-  few (Reading.refused k) c n h = omega (arith, ap (λ (x : P.Refusal). x .number) h, n .1)
-  few (Reading.refusedAtEntry k) c n h = omega (arith, ap (λ (x : P.Refusal). x .number) h, n .1)
+  few (Reading.refused k) c n h = omega (arith, ap (λ (x : P.Refusal). x .number) h, table-numbers (Call.restore []) (k .number) n .1)
+  few (Reading.refusedAtEntry k) c n h = omega (arith, ap (λ (x : P.Refusal). x .number) h, table-numbers (Call.restore []) (k .number) (restores (Reading.refusedAtEntry k) n) .1)
 
   pub read-few : (bs : List ℕ) (r : Answer) (c : Refusal) → r ≡ A.Refused c → Taken (readInput bs) r a l → c .number ≤ 19
   read-few bs r c e h = few (readInput bs) c (input-numbered bs) (subst (λ (x : Answer). Taken (readInput bs) x a l) e h)

@@ -1,3 +1,2 @@
 pub mod Plenty
-pub mod Numbered
 pub mod Laws

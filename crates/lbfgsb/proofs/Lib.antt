@@ -1,6 +1,7 @@
 pub mod Answers
 pub mod Back
 pub mod Restored
+pub mod Firsts
 pub mod Said
 pub mod Reading
 pub mod Areas
@@ -9,6 +10,7 @@ pub mod Trace
 pub mod InOrder
 pub mod Alike
 pub mod Consequences
+pub mod AnyWords
 pub mod Leaves
 pub mod Outputs
 pub mod Records

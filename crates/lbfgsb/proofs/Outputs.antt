@@ -1,6 +1,7 @@
 -- An output is the answer's part at its front, and the rest of it is as it was: for each read, from its contract. Assumes nothing.
 use Prim.Native.Nat.{ℕ, zero, suc}
-use mathlib.Core.Path.{_≡_, refl, sym, ap, _∙_}
+use native.Mathlib.Omega.{arith}
+use mathlib.Core.Path.{_≡_, refl, sym, ap, subst, _∙_}
 use mathlib.Core.List.{List, [], _∷_, _++_}
 use lib.ListN.{length, take, drop}
 use lib.Ieee.{Float}
@@ -8,7 +9,7 @@ use contract.Lifetimes.{Lfts}
 use denote.Ref.{now}
 use denote.Triple.Clauses.{AtExit}
 use borrow.Fn.Kinds.{Dens, endedOf, resT}
-use Rattle.lbfgsb.specs.Words.{asked, told, entered, saved}
+use Rattle.lbfgsb.specs.Words.{asked, told, entered, saved, firstOf}
 use Rattle.lbfgsb.specs.Did.{Written, taken}
 use Rattle.lbfgsb.specs.Chain.{Output, floatsOf, numbersOf}
 use Rattle.lbfgsb.specs.declared.Asked.{Asked}
@@ -17,6 +18,7 @@ use Rattle.lbfgsb.specs.declared.Told.{Told}
 use Rattle.lbfgsb.specs.declared.Told.the-variants as T
 use Rattle.lbfgsb.specs.declared.Wrote.{Wrote}
 use Rattle.lbfgsb.specs.declared.Wrote.the-variants as W
+use Rattle.lbfgsb.proofs.Firsts.{first-long, first-taken}
 use Rattle.lbfgsb.proofs.question.Kinds as question-kinds
 use Rattle.lbfgsb.proofs.question.Reads as question-reads
 use Rattle.lbfgsb.proofs.report.Kinds as report-kinds
@@ -38,6 +40,12 @@ none-written h = h .rest
 some-written : {A : Type 0} {out out' : List A} (n : ℕ) → Written (length (take n out')) out out' → Output (take n out') out out'
 some-written {A} {out} {out'} n h = sym (front-back n out') ∙ ap (λ (r : List A). take n out' ++ r) (h .rest)
 
+-- as many as a number that was returned
+first-written : {out out' : List ℕ} (k : ℕ) → Written (length (firstOf k out')) out out' → Output (firstOf k out') out out'
+first-written {out} {out'} k h =
+    let same : firstOf k out' ≡ take k out' = first-taken k out' (omega (arith, h .within, h .sized, first-long k out')) in
+    subst (λ (v : List ℕ). Output v out out') (sym same) (some-written k (subst (λ (v : List ℕ). Written (length v) out out') same h))
+
 asked-written : (z : Asked) (n : ℕ) (out out' : List Float) → Written (taken (asked z n out')) out out' → Output (floatsOf (asked z n out')) out out'
 asked-written Q.Nothing n out out' h = none-written h
 asked-written (Q.Is k) n out out' h = some-written n h
@@ -48,11 +56,11 @@ told-written (T.Is o) n out out' h = some-written n h
 told-written (T.Refused c) n out out' h = none-written h
 
 entered-written : (z : Wrote) (out out' : List ℕ) → Written (taken (entered z out')) out out' → Output (numbersOf (entered z out')) out out'
-entered-written (W.Is k) out out' h = some-written k h
+entered-written (W.Is k) out out' h = first-written k h
 entered-written (W.Refused c) out out' h = none-written h
 
 saved-written : (z : Wrote) (out out' : List ℕ) → Written (taken (saved z out')) out out' → Output (numbersOf (saved z out')) out out'
-saved-written (W.Is k) out out' h = some-written k h
+saved-written (W.Is k) out out' h = first-written k h
 saved-written (W.Refused c) out out' h = none-written h
 
 -- ---- the theorems: the answer and the output are those of `Called`

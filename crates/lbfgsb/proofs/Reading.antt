@@ -25,17 +25,18 @@ use Rattle.question.specs.Reports.{pointAsked, written, reportOf}
 use Rattle.question.specs.declared.Outcome.{Outcome}
 use Rattle.record.specs.Records.{setupSize}
 use Rattle.driver.specs.Replies.{isHeld}
-use Rattle.lbfgsb.specs.Words.{words}
+use Rattle.lbfgsb.specs.Words.{words, firstOf}
 use Rattle.lbfgsb.specs.Did.{Written, refusedBy, questionOf, questionAnswer, reportAnswer, frontEntry, entryIn, entryKept, shortLog, entryAnswer, recordIn, saveAnswer, taken, Read, Counted}
 use Rattle.lookup.specs.Reading.{Begins}
 use Rattle.lookup.proofs.Entries.{entry-words, entry-room}
+use Rattle.lbfgsb.proofs.Firsts.{first-taken}
 use Rattle.lbfgsb.proofs.Said.{on, off, reportFrom, entryFrom, saveFrom, question-said, report-said, replies-said, entry-said, save-said}
 use Rattle.lookup.proofs.Saving.{vector-long, record-long}
 
 -- ---- an output slice
 
 untouched : {A : Type 0} (out : List A) → Written 0 out out
-untouched out = record { sized = refl; rest = refl }
+untouched out = record { within = omega arith; sized = refl; rest = refl }
 
 -- words written from its front
 put-front : {A : Type 0} (v out out′ : List A) → out′ ≡ written v out → take (length v) out′ ≡ v
@@ -43,9 +44,17 @@ put-front v out out′ e = ap (take (length v)) e ∙ take-at v (drop (length v)
 
 put-rest : {A : Type 0} (v out out′ : List A) → length v ≤ length out → out′ ≡ written v out → Written (length v) out out′
 put-rest v out out′ h e = record {
+  within = h;
   sized = ap length e ∙ length-append v (drop (length v) out) ∙ omega (arith, length-drop (length v) out);
   rest = ap (drop (length v)) e ∙ drop-at v (drop (length v) out) (length v) refl;
 }
+
+-- the words that a number returned stands for
+put-first : (v out out′ : List ℕ) (k : ℕ) → length v ≡ k → k ≤ length out → out′ ≡ written v out → firstOf k out′ ≡ v
+put-first v out out′ k long h e =
+    first-taken k out′ (omega (arith, put-rest v out out′ (omega (arith, long)) e .sized))
+    ∙ ap (λ (j : ℕ). take j out′) (sym long)
+    ∙ put-front v out out′ e
 
 fits : (room n : ℕ) (o : H.Answer) → n ≤ room → refusedBy (outputShort room n) o ≡ o
 fits room n o h = rw (le-ltb room n h)
@@ -248,11 +257,11 @@ module _ (t : Fit) (a : List Float) (l : List ℕ) (k : ℕ) (out : List ℕ) wh
 
   pub entry-put : (at size : ℕ) (out′ : List ℕ) → isHeld t a ≡ true → t .words ≤ length l → k < t .entries → Begins (t .shape .n) k (take (t .words) l) at
       → size ≡ length (frontEntry (t .shape .n) (drop at (take (t .words) l))) → size ≤ length out → out′ ≡ written (take size (drop at l)) out
-      → Entered (H.Answer.entered (take size out′)) out′
+      → Entered (H.Answer.entered (firstOf size out′)) out′
   entry-put at size out′ h r s b e z d =
       let v = take size (drop at l) in
       let long : length v ≡ size = found-long at size r b e in
-      let front : take size out′ ≡ v = ap (λ (j : ℕ). take j out′) (sym long) ∙ put-front v out out′ d in
+      let front : firstOf size out′ ≡ v = put-first v out out′ size long z d in
       let rest : Written (length v) out out′ = put-rest v out out′ (omega (arith, long)) d in
       entered-by
       (entry-held v h r (entry-found at size r s b e)
@@ -297,11 +306,11 @@ module _ (t : Fit) (a : List Float) (l : List ℕ) (out : List ℕ) where
       (untouched out)
 
   pub save-put : (size : ℕ) (out′ : List ℕ) → isHeld t a ≡ true → t .words ≤ length l → size ≡ setupSize (t .options .bounded) (t .shape .n)
-      → 8 * (size + t .words + 4) ≤ length out → out′ ≡ written (recordIn (words t a l)) out → Saved (H.Answer.saved (take (8 * (size + t .words + 4)) out′)) out′
+      → 8 * (size + t .words + 4) ≤ length out → out′ ≡ written (recordIn (words t a l)) out → Saved (H.Answer.saved (firstOf (8 * (size + t .words + 4)) out′)) out′
   save-put size out′ h r n s d =
       let needed = 8 * (size + t .words + 4) in
       let long : length whole ≡ needed = record-long t a l h r ∙ ap (λ (k : ℕ). 8 * (k + t .words + 4)) (sym n) in
-      let front : take needed out′ ≡ whole = ap (λ (j : ℕ). take j out′) (sym long) ∙ put-front whole out out′ d in
+      let front : firstOf needed out′ ≡ whole = put-first whole out out′ needed long s d in
       let rest : Written (length whole) out out′ = put-rest whole out out′ (omega (arith, long)) d in
       saved-by
       (save-held false h (le-ltb (length l) (t .words) r)

@@ -14,7 +14,7 @@ use lib.Ieee.{Float}
 use lib.Ieee.Scale.{finite}
 use Rattle.definition.specs.Number.{toFloat, zero64}
 use Rattle.definition.specs.Vector.{word}
-use Rattle.definition.specs.Problem.{Setup, dimension, orElse, projectedStart, termsOf, limitsOf}
+use Rattle.definition.specs.Problem.{Setup, Refusal, dimension, orElse, projectedStart, termsOf, limitsOf}
 use Rattle.definition.specs.Compact.{wrap}
 use Rattle.definition.specs.Machine.{Reply, Question, Report, question as questionOf, report as reportOf, unreported}
 use Rattle.definition.specs.Driver.{run}
@@ -24,7 +24,7 @@ use Rattle.definition.specs.Replies.{isValue, isNotice, isFailure, countOf, ope
 use Rattle.definition.specs.Facts.{gradientsCompleted}
 use Rattle.definition.specs.Points.{lastTaken, OwnOf, InBox}
 use Rattle.definition.specs.Sound.{Sound, refusedAtEntry}
-use Rattle.definition.specs.History.{Call, Answer, History, entryAt, historyAfter, historyAnswers}
+use Rattle.definition.specs.History.{Call, Answer, History, refusalsOf, entryRefusals, among, entryAt, historyAfter, historyAnswers}
 use Rattle.definition.specs.Ordered.{Ordered, logInOrder, orderedAfter, orderedAnswers}
 use Rattle.area.specs.Area.{Vecs, view, X, G, Lower, Upper, X0, Trial, TrialGradient, Direction}
 use Rattle.compact.specs.State.{pairAt}
@@ -120,6 +120,15 @@ pub record InOrder (w : Words) (cs : List Call) (os : List Answer) (w' : Words) 
   pub fit : FitIn w' ↔ HasOrdered (orderedAfter (lengths w) Ordered.empty cs)
   pub entries : (s : Setup) (qs : List Reply) → orderedAfter (lengths w) Ordered.empty cs ≡ Ordered.fit s qs → w' .state .entries ≡ length qs
   pub log : (s : Setup) (qs : List Reply) → orderedAfter (lengths w) Ordered.empty cs ≡ Ordered.fit s qs → take (w' .state .words) (w' .log) ≡ logInOrder qs
+
+-- ---- any words at all (demand 1)
+
+-- A call at any words gets a result, or a refusal by one of the numbers that document 01's table has for it. A refusal changes no word,
+-- but that one at an entry, of a record or of an altered log, leaves the area all zero.
+pub record Answered (c : Call) (w w' : Words) (o : Answer) : Type 0 where
+  pub sized : lengths w' ≡ lengths w
+  pub number : (r : Refusal) → o ≡ Answer.refused r → among (r .number) (refusalsOf c) ≡ true
+  pub words : (r : Refusal) → o ≡ Answer.refused r → (w' ≡ w) ⊎ ((among (r .number) (entryRefusals c) ≡ true) × Zeroed w w')
 
 -- ---- what a call leaves as it was
 

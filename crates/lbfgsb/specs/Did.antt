@@ -46,6 +46,7 @@ pub record Zeroed (w w' : Words) : Type 0 where
 
 -- an output slice: `count` of it written, the rest as it was
 pub record Written {A : Type 0} (count : ℕ) (out out' : List A) : Type 0 where
+  pub within : count ≤ length out
   pub sized : length out' ≡ length out
   pub rest : drop count out' ≡ drop count out
 

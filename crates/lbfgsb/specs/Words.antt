@@ -1,8 +1,8 @@
 -- The words between two calls: the history that they hold, and the history's answer read off the code's.
-use Prim.Native.Nat.{ℕ}
+use Prim.Native.Nat.{ℕ, zero, suc}
 use mathlib.Core.Path.{_≡_}
 use mathlib.Core.Bool.{false}
-use mathlib.Core.List.{List}
+use mathlib.Core.List.{List, [], _∷_}
 use mathlib.Core.Option.{none, some}
 use lib.ListN.{take}
 use lib.Ieee.{Float}
@@ -65,10 +65,16 @@ abbrev pub told : Told → ℕ → List Float → H.Answer
 told (T.Is o) n out = H.Answer.reported (reportOf o (take n out))
 told (T.Refused c) n out = H.Answer.refused (refusalOf c)
 
+-- The first k words of an output: k of them whatever its length, so that an answer tells the number that was returned.
+abbrev pub firstOf : ℕ → List ℕ → List ℕ
+firstOf zero out = []
+firstOf (suc k) [] = 0 ∷ firstOf k []
+firstOf (suc k) (x ∷ out) = x ∷ firstOf k out
+
 abbrev pub entered : Wrote → List ℕ → H.Answer
-entered (W.Is k) out = H.Answer.entered (take k out)
+entered (W.Is k) out = H.Answer.entered (firstOf k out)
 entered (W.Refused c) out = H.Answer.refused (refusalOf c)
 
 abbrev pub saved : Wrote → List ℕ → H.Answer
-saved (W.Is k) out = H.Answer.saved (take k out)
+saved (W.Is k) out = H.Answer.saved (firstOf k out)
 saved (W.Refused c) out = H.Answer.refused (refusalOf c)

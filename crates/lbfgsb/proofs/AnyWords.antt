@@ -1,0 +1,160 @@
+-- Demand 1: at any words at all, held or not, every call of every list gets a result or a refusal by a number that document 01's table has for it, and a
+-- refusal changes no word, but that one at an entry leaves the area all zero. From the contracts alone; no history is asked for. Assumes nothing.
+use Prim.Native.Nat.{ℕ, _+_}
+use mathlib.Core.Path.{_≡_, refl, sym, ap, subst, _∙_}
+use mathlib.Core.Bool.{Bool, true, false, cond}
+use mathlib.Core.Logic.{_⊎_, inl, inr}
+use mathlib.Core.List.{List}
+use mathlib.Core.Option.{Option, none, some}
+use lib.Dec.{ltb}
+use lib.ListN.{length}
+use Rattle.definition.specs.Problem.{Setup, Refusal, Check, refuse, when, _then_, validate}
+use Rattle.definition.specs.Machine.{Reply, Question, checkDue, question, unreported}
+use Rattle.definition.specs.Log.{entryWords}
+use Rattle.definition.specs.Record.{Reading, plainRefusal, checkArea, readRecord}
+use Rattle.definition.specs.History.{Call, Answer, refusalsOf, entryRefusals, among, outputShort, restoredAnswer}
+use Rattle.definition.proofs.Tests.{by-test}
+use Rattle.definition.proofs.Numbered.{Numbered, AnswerNumbered, ReadNumbered, tested, both, opening, due, short, record-numbered, restores}
+use Rattle.driver.specs.Replies.{isHeld}
+use Rattle.lbfgsb.specs.Words.{Words, lengths, machineIn}
+use Rattle.lbfgsb.specs.Did.{Zeroed, Started, Restored, Restores, Replied, TakenBack, TakesBack, refusedBy, checkAt, checkBack, questionOf, questionAnswer, reportAnswer, repliesAnswer, entryKept, shortLog, entryAnswer, recordIn, saveAnswer}
+use Rattle.lbfgsb.specs.Chain.{Chain, Answered}
+use Rattle.lbfgsb.proofs.Trace.{Called, by-start, by-restore, by-reply, by-take-back, by-question, by-report, by-replies, by-entry, by-save, did}
+
+-- ---- the numbers of an answer
+
+by-check : {row : List ℕ} {c : Check} (o : Answer) → Numbered row c → AnswerNumbered row o → AnswerNumbered row (refusedBy c o)
+by-check o Numbered.passes h = h
+by-check o (Numbered.refuses e) h = e
+
+cut : {row : List ℕ} (w : Words) → among 12 row ≡ true → Numbered row (shortLog w)
+cut w e = tested (ltb (length (w .log)) (w .state .words)) 12 0 0 e
+
+start-numbered : {s : Setup} {w w' : Words} {o : Answer} → Started s w w' o → AnswerNumbered (refusalsOf (Call.start s)) o
+start-numbered {s} {w} l = subst (AnswerNumbered (refusalsOf (Call.start s))) (sym (l .always)) (by-check Answer.done (opening (lengths w) s) tt)
+
+restore-numbered : {bs : List ℕ} {w w' : Words} {o : Answer} → Restored bs w w' o → AnswerNumbered (refusalsOf (Call.restore bs)) o
+restore-numbered {bs} {w} l =
+    subst (AnswerNumbered (refusalsOf (Call.restore bs))) (sym (l .always)) (restores (readRecord (lengths w) bs) (record-numbered (lengths w) bs))
+
+reply-numbered : {r : Reply} {w w' : Words} {o : Answer} → Replied r w w' o → AnswerNumbered (refusalsOf (Call.reply r)) o
+reply-numbered {r} {w} l =
+    let full = ltb (length (w .log)) (w .state .words + length (entryWords r)) in
+    let N = AnswerNumbered (refusalsOf (Call.reply r)) in
+    subst N (sym (l .always))
+    (by-test N (isHeld (w .state) (w .area))
+    (λ _. by-check Answer.done (both (checkDue (machineIn w) r) (when full (refuse 12 0 0)) (due (machineIn w) r) (tested full 12 0 0 refl)) tt)
+    (λ _. refl))
+
+question-numbered : (w : Words) (room : ℕ) → AnswerNumbered (refusalsOf (Call.question room)) (questionAnswer w room)
+question-numbered w room = by-test N (isHeld (w .state) (w .area)) (λ _. go (question (machineIn w))) (λ _. tt)
+  where
+    N : Answer → Type 0
+    N = AnswerNumbered (refusalsOf (Call.question room))
+
+    go : (q : Option Question) → N (questionOf w room q)
+    go none = tt
+    go (some q) = by-check (Answer.asked (some q)) (short room (w .state .shape .n) refl) tt
+
+report-numbered : (w : Words) (room : ℕ) → AnswerNumbered (refusalsOf (Call.report room)) (reportAnswer w room)
+report-numbered w room =
+    let none = unreported (machineIn w .phase) in
+    by-test (AnswerNumbered (refusalsOf (Call.report room))) (isHeld (w .state) (w .area))
+    (λ _. by-check _ (both (when none (refuse 15 0 0)) (outputShort room (w .state .shape .n)) (tested none 15 0 0 refl) (short room (w .state .shape .n) refl)) tt)
+    (λ _. refl)
+
+replies-numbered : (w : Words) → AnswerNumbered (refusalsOf Call.replies) (repliesAnswer w)
+replies-numbered w = by-test (AnswerNumbered (refusalsOf Call.replies)) (isHeld (w .state) (w .area)) (λ _. tt) (λ _. tt)
+
+entry-numbered : (w : Words) (k room : ℕ) → AnswerNumbered (refusalsOf (Call.entry k room)) (entryAnswer w k room)
+entry-numbered w k room =
+    let needed = length (entryKept w k) in
+    by-test (AnswerNumbered (refusalsOf (Call.entry k room))) (isHeld (w .state) (w .area))
+    (λ _. by-check _ (both (shortLog w) (outputShort room needed) (cut w refl) (short room needed refl)) tt)
+    (λ _. tt)
+
+save-numbered : (w : Words) (room : ℕ) → AnswerNumbered (refusalsOf (Call.save room)) (saveAnswer w room)
+save-numbered w room =
+    let needed = length (recordIn w) in
+    by-test (AnswerNumbered (refusalsOf (Call.save room))) (isHeld (w .state) (w .area))
+    (λ _. by-check _ (both (shortLog w) (outputShort room needed) (cut w refl) (short room needed refl)) tt)
+    (λ _. tt)
+
+-- ---- a refusal's words
+
+abbrev numberOf : Answer → ℕ
+numberOf (Answer.refused r) = r .number
+numberOf Answer.done = 0
+numberOf (Answer.asked q) = 0
+numberOf (Answer.reported r) = 0
+numberOf (Answer.counted k) = 0
+numberOf (Answer.entered ws) = 0
+numberOf (Answer.saved bs) = 0
+
+abbrev Left : Call → Refusal → Words → Words → Type 0
+Left c r w w' = (w' ≡ w) ⊎ ((among (r .number) (entryRefusals c) ≡ true) × Zeroed w w')
+
+-- refused at an entry, by a number of the row
+at-entry : {c : Call} {r b : Refusal} {w w' : Words} → Answer.refused r ≡ Answer.refused b → among (b .number) (entryRefusals c) ≡ true → Zeroed w w' → Left c r w w'
+at-entry {c} e n h = inr (subst (λ (k : ℕ). among k (entryRefusals c) ≡ true) (sym (ap numberOf e)) n, h)
+
+-- the checks of a taking back
+back-checks : (w : Words) (j : ℕ) → Numbered (refusalsOf (Call.takeBack j)) (checkBack w j)
+back-checks w j =
+    by-test (Numbered (refusalsOf (Call.takeBack j))) (isHeld (w .state) (w .area))
+    (λ _. both (when (ltb (w .state .entries) j) (refuse 16 0 0)) (shortLog w) (tested (ltb (w .state .entries) j) 16 0 0 refl) (cut w refl))
+    (λ _. tested (ltb 0 j) 16 0 0 refl)
+
+back-numbered : {j : ℕ} {w w' : Words} {o : Answer} → TakenBack j w w' o → AnswerNumbered (refusalsOf (Call.takeBack j)) o
+back-numbered {j} {w} {w'} {o} l = go (checkBack w j) (back-checks w j) (l .back)
+  where
+    N : Answer → Type 0
+    N = AnswerNumbered (refusalsOf (Call.takeBack j))
+
+    go : (c : Check) → Numbered (refusalsOf (Call.takeBack j)) c → TakesBack j c w w' o → N o
+    go (some r) (Numbered.refuses n) t = subst N (sym (t .0)) n
+    go none n (inl t) = subst N (sym (t .0)) tt
+    go none n (inr t) = subst N (sym (t .0)) refl
+
+back-left : {j : ℕ} {w w' : Words} {o : Answer} → TakenBack j w w' o → (r : Refusal) → o ≡ Answer.refused r → Left (Call.takeBack j) r w w'
+back-left {j} {w} {w'} {o} l r q = go (checkBack w j) (l .back)
+  where
+    go : (c : Check) → TakesBack j c w w' o → Left (Call.takeBack j) r w w'
+    go (some b) t = inl (t .1)
+    go none (inl t) = let e = sym q ∙ t .0 in cc
+    go none (inr t) = at-entry (sym q ∙ t .0) refl (t .1 .zeroed)
+
+restore-left : {bs : List ℕ} {w w' : Words} {o : Answer} → Restored bs w w' o → (r : Refusal) → o ≡ Answer.refused r → Left (Call.restore bs) r w w'
+restore-left {bs} {w} {w'} l r q = go (readRecord (lengths w) bs) (record-numbered (lengths w) bs) (l .restores) (sym q ∙ l .always)
+  where
+    go : (d : Reading) → ReadNumbered d → Restores d w w' → Answer.refused r ≡ restoredAnswer d → Left (Call.restore bs) r w w'
+    go (Reading.accepted s rs) n h e = cc
+    go (Reading.refused c) n h e = inl h
+    go (Reading.refusedAtEntry c) n h e = at-entry e n h
+
+-- ---- each call, and every list of calls
+
+-- a read: the words stay
+reads : {c : Call} {w : Words} {o any : Answer} → o ≡ any → AnswerNumbered (refusalsOf c) any → Answered c w w o
+reads {c} e n = record { sized = refl; number = λ r q. subst (AnswerNumbered (refusalsOf c)) (sym e ∙ q) n; words = λ r q. inl refl }
+
+-- a call that changes them
+changes : {c : Call} {w w' : Words} {o : Answer} → lengths w' ≡ lengths w → AnswerNumbered (refusalsOf c) o → ((r : Refusal) → o ≡ Answer.refused r → Left c r w w')
+    → Answered c w w' o
+changes {c} s n h = record { sized = s; number = λ r q. subst (AnswerNumbered (refusalsOf c)) q n; words = h }
+
+pub call-answered : {c : Call} {w w' : Words} {o : Answer} → Called c w w' o → Answered c w w' o
+call-answered (by-start κs a z e log l) = changes (l log .did .sized) (start-numbered (l log)) (λ r q. inl (l log .refuses r q))
+call-answered (by-restore κs a z e l) = changes (l .did .sized) (restore-numbered l) (restore-left l)
+call-answered (by-reply κs a z e l) = changes (l .did .sized) (reply-numbered l) (λ r q. inl (l .refuses r q))
+call-answered (by-take-back κs a z e l) = changes (l .did .sized) (back-numbered l) (back-left l)
+call-answered (by-question κs a z e log l) = reads (l log .always) (question-numbered _ _)
+call-answered (by-report κs a z e log l) = reads (l log .always) (report-numbered _ _)
+call-answered (by-replies κs a z e log l) = reads (l log .always) (replies-numbered _)
+call-answered (by-entry κs a z e l) = reads (l .always) (entry-numbered _ _ _)
+call-answered (by-save κs a z e l) = reads (l .always) (save-numbered _ _)
+
+-- from any words whatever, every call of every list
+pub every-call-answered : {w w' : Words} {cs : List Call} {os : List Answer} → Chain Called w cs os w' → Chain Answered w cs os w'
+every-call-answered Chain.end = Chain.end
+every-call-answered (Chain.call d ds) = Chain.call (call-answered d) (every-call-answered ds)
