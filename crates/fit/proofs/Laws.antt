@@ -1,14 +1,18 @@
 -- Laws of `specs/State.antt`: how `Turns` and `Steps` join, and what leaves the machine as it was. Assumes nothing.
 use mathlib.Core.Path.{_≡_, refl, ap, _∙_}
 use mathlib.Core.List.{List, []}
+use mathlib.Core.Option.{some}
 use Prim.Native.Nat.{ℕ, _+_, _*_, _≤_, _<_}
 use native.Mathlib.Omega.{arith}
 use lib.Ieee.{Float}
 use Rattle.definition.specs.Compact.{Compact, Pair, wrap}
+use Rattle.definition.specs.Counters as C
 use Rattle.definition.specs.Machine as M
+use Rattle.definition.specs.Driver.{askValue}
 use Rattle.area.specs.Area.{Vecs, view, upd, ScratchOnly, X, G, Lower, Upper, X0, Trial, TrialGradient, Direction}
 use Rattle.counters.specs.declared.Counters.{Counters}
-use Rattle.counters.specs.Counts.{countersOf}
+use Rattle.counters.specs.Counts.{countersOf, valueCharge}
+use Rattle.counters.proofs.Laws.{charge-made}
 use Rattle.compact.specs.declared.Shape.{Shape}
 use Rattle.compact.specs.State.{pairSlot, pairAt, pairsOf, compactOf, Sound}
 use Rattle.compact.proofs.Laws.{tab-same, place-below, vector-room}
@@ -209,6 +213,11 @@ compacted {t} {h} {theta} {c} {a} {b} n m s e l = record {
 }
 
 -- ---- counters
+
+-- a charge that is made asks
+pub charge-asks : (p : M.Phase) (m : M.Machine) (k : C.Counters) → some k ≡ valueCharge (m .limits) (m .counters) → M.inPhase p (M.counting k m) ≡ askValue p m
+unfolding askValue
+charge-asks p m k e = let h = charge-made (m .limits) (m .counters) k e in rw (h .0, h .1)
 
 pub small-as : {k c : Counters} → c .nit ≡ k .nit → c .drawn ≡ k .drawn → Small k → Small c
 small-as e q s = record { nit = rw e (s .nit); drawn = rw q (s .drawn) }

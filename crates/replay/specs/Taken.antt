@@ -126,7 +126,7 @@ pub data Run (ws : List ℕ) (limit room : ℕ) (t : Fit) (a : List Float) : Fit
 
 -- another number of entries kept, and of their words, at a probe
 abbrev pub logged : ℕ → ℕ → Probing → Probing
-logged entries words q = record { i = q .i; side = q .side; right = q .right; nfev = q .nfev; drawn = q .drawn; entries = entries; words = words }
+logged entries words q = record { i = q .i; side = q .side; right = q .right; counters = q .counters; entries = entries; words = words }
 
 -- the entry at the probe q of t is left, or it is taken and the next probe is asked, for each place alike
 abbrev pub TakenBy : Fit → Probing → List Float → List ℕ → ℕ → ℕ → Turned → List Float → Type 0

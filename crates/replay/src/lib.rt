@@ -290,12 +290,12 @@ fn after_probes(
     if t.shape.n <= i {
         return t;
     }
+    let counters = t.counters;
     let q = Probing {
         i: i,
         side: side,
         right: t.right,
-        nfev: t.counters.nfev,
-        drawn: t.counters.drawn,
+        counters: counters,
         entries: t.entries,
         words: t.words,
     };

@@ -1,55 +1,59 @@
 -- Laws of a run of probes: each turn is the definition's answer, and the place does not count. Assumes nothing.
-use mathlib.Core.Path.{_≡_, refl, sym, ap, _∙_}
+use mathlib.Core.Path.{_≡_, refl, sym, ap, _∙_, subst}
 use mathlib.Core.Bool.{true, false, true≢false}
 use mathlib.Core.List.{List}
+use mathlib.Core.Option.{some}
 use Prim.Native.Nat.{ℕ, _+_, _*_, _<_}
-use borrow.Author.Tests.{lt-ltb}
 use lib.Ieee.{Float}
 use lib.Ieee.Scale.{finite}
 use Rattle.definition.specs.Vector.{word}
 use Rattle.definition.specs.Gradient.{Probes, probesAt, bothQuotient}
-use Rattle.definition.specs.Counters.{chargeValue}
 use Rattle.definition.specs.Machine as M
-use Rattle.definition.specs.Machine.{Machine, inPhase, counting, withRight}
+use Rattle.definition.specs.Machine.{Machine, withRight}
 use Rattle.definition.specs.Driver.{askValue, withComponent, byProbes, probedTo, probed, onProbe}
 use Rattle.area.specs.Area.{view, putWord, Trial, Lower, Upper, TrialGradient}
 use Rattle.area.proofs.Laws.{word-view}
-use Rattle.problem.specs.Setups.{floatOf, schemeOf}
+use Rattle.problem.specs.Setups.{floatOf, schemeOf, limitsOf}
+use Rattle.counters.specs.declared.Counters.{Counters}
+use Rattle.counters.specs.Counts.{countersOf, valueCharge}
 use Rattle.gradient.specs.Probing.{probesFor}
 use Rattle.fit.specs.declared.Fit.{Fit}
 use Rattle.fit.specs.declared.Place.{Place}
 use Rattle.fit.specs.declared.Side.{Side}
 use Rattle.fit.specs.declared.Side.the-variants.{Right, Left}
-use Rattle.fit.specs.State.{placeOf, sideOf, machine, machineOf, Turns}
-use Rattle.fit.proofs.Laws.{still, steps-as}
+use Rattle.fit.specs.State.{placeOf, sideOf, machine, machineOf}
+use Rattle.fit.proofs.Laws.{still, steps-as, charge-asks}
 use Rattle.question.proofs.Laws.{probes-read}
 use Rattle.replies.specs.declared.Probing.{Probing}
 use Rattle.replies.specs.declared.Turned.{Turned}
 use Rattle.replies.specs.declared.Turned.the-variants.{Stays, On}
-use Rattle.replies.specs.Runs.{probing, asking, TurnIs, unprobed, firstSide}
+use Rattle.replies.specs.Runs.{probing, asks, TurnIs, unprobed, firstSide}
 use Rattle.replies.proofs.Laws.{by-probes, component-put, finite-probed}
 
--- ---- the next question, within the budget
+-- ---- the next question
 
-asks : (p : M.Phase) (m : Machine) → m .counters .nfev < m .limits .maxfev → inPhase p (counting (chargeValue (m .counters)) m) ≡ askValue p m
-unfolding askValue
-asks p m h = rw (lt-ltb (m .counters .nfev) (m .limits .maxfev) h)
+-- the probe asked after q, with the counters k
+abbrev pub asking : Probing → Counters → ℕ → Side → Float → Probing
+asking q k i side right = record { i = i; side = side; right = right; counters = k; entries = q .entries; words = q .words }
 
-module _ (t : Fit) (w : Place) (q : Probing) (i : ℕ) (side : Side) (h : q .nfev < t .limits .maxfev) where
-  asked-turns : Turns (askValue (M.Phase.probe (placeOf w) i (sideOf side))) (probing w q t) (probing w (asking q i side (q .right)) t)
-  asked-turns = record {
-    shape = refl;
-    kept = record { options = refl; entries = refl; words = refl; settled = λ s. s };
-    is = λ v. asks (M.Phase.probe (placeOf w) i (sideOf side)) (machine (probing w q t) v) h;
-  }
-
-  asked-right : (x : Float)
-      → Turns (λ (m : Machine). askValue (M.Phase.probe (placeOf w) i (sideOf side)) (withRight x m)) (probing w q t) (probing w (asking q i side x) t)
-  asked-right x = record {
-    shape = refl;
-    kept = record { options = refl; entries = refl; words = refl; settled = λ s. s };
-    is = λ v. asks (M.Phase.probe (placeOf w) i (sideOf side)) (withRight x (machine (probing w q t) v)) h;
-  }
+-- a charge that is made asks it
+pub asked-on : (q : Probing) (t : Fit) (k : Counters) (i : ℕ) (side : Side) (right : Float) → i < t .shape .n
+    → some (countersOf k) ≡ valueCharge (limitsOf (t .limits)) (countersOf (q .counters)) → (a : List Float)
+    → TurnIs (asks i (sideOf side) right) q t a (On (asking q k i side right)) a
+asked-on q t k i side right h e a = record {
+  is = (
+    h,
+    λ w.
+        let F = asks i (sideOf side) right (placeOf w) in
+        still {F = F} {G = F}
+        (record {
+          shape = refl;
+          kept = record { options = refl; entries = refl; words = refl; settled = λ s. s };
+          is = λ v. charge-asks (M.Phase.probe (placeOf w) i (sideOf side)) (withRight right (machine (probing w q t) v)) (countersOf k) e;
+        })
+        refl,
+  );
+}
 
 -- a coordinate that is probed asks on its first side
 by-first : (w : M.Place) (j : ℕ) (m next : Machine) (p : Probes) → unprobed p ≡ false → askValue (M.Phase.probe w j (firstSide p)) m ≡ byProbes w j m next p
@@ -68,35 +72,30 @@ turn-as (On r) h e = record { is = (h .is .0, λ w. steps-as (h .is .1 w) (e w))
 
 module _ (q : Probing) (t : Fit) (a : List Float) where
   -- the component is stored, and the next coordinate is probed
-  pub component-turned : (v : Float) (p : Probes) (side : Side) (b : List Float) → q .i + 1 < t .shape .n → q .nfev < t .limits .maxfev
+  pub component-turned : (v : Float) (p : Probes) (side : Side) (z : Turned) (r : Probing) (b : List Float) → q .i + 1 < t .shape .n
       → p ≡ probesAt (machineOf t a .terms) (view a (t .shape .n) Trial) (q .i + 1) → unprobed p ≡ false → sideOf side ≡ firstSide p
-      → view b (t .shape .n) ≡ putWord (view a (t .shape .n)) TrialGradient (q .i) v
-      → TurnIs (λ w. probedTo w (q .i) v) q t a (On (asking q (q .i + 1) side (q .right))) b
-  component-turned v p side b l k e u s d = record {
-    is = (
-      l,
-      λ w.
-          let m = withComponent (q .i) v (machineOf (probing w q t) a) in
-          let n = t .shape .n in
-          let F = askValue (M.Phase.probe (placeOf w) (q .i + 1) (sideOf side)) in
-          component-put {G = probedTo (placeOf w) (q .i) v} (q .i) v (still {F = F} {G = F} (asked-turns t w q (q .i + 1) side k) refl) d
-          (ap (λ (z : M.Side). askValue (M.Phase.probe (placeOf w) (q .i + 1) z) m) s
-          ∙ by-first (placeOf w) (q .i + 1) m _ p u
-          ∙ by-probes n (placeOf w) (q .i + 1) m l e),
-    );
-  }
+      → ((d : List Float) → TurnIs (asks (q .i + 1) (sideOf side) (q .right)) q t d z d) → z ≡ On r
+      → view b (t .shape .n) ≡ putWord (view a (t .shape .n)) TrialGradient (q .i) v → TurnIs (λ w. probedTo w (q .i) v) q t a (On r) b
+  component-turned v p side z r b l e u s k o d =
+      let h = subst (λ (y : Turned). TurnIs (asks (q .i + 1) (sideOf side) (q .right)) q t b y b) o (k b) in
+      record {
+        is = (
+          h .is .0,
+          λ w.
+              let m = withComponent (q .i) v (machineOf (probing w q t) a) in
+              component-put {G = probedTo (placeOf w) (q .i) v} (q .i) v (h .is .1 w) d
+              (ap (λ (y : M.Side). askValue (M.Phase.probe (placeOf w) (q .i + 1) y) m) s
+              ∙ by-first (placeOf w) (q .i + 1) m _ p u
+              ∙ by-probes (t .shape .n) (placeOf w) (q .i + 1) m l e),
+        );
+      }
 
   -- the value right of a coordinate that is probed on both sides
-  pub right-turned : (r l v : Float) → q .i < t .shape .n → q .nfev < t .limits .maxfev → q .side ≡ Right
-      → TurnIs (λ w. probed w (q .i) (Probes.both r l) (sideOf (q .side)) v) q t a (On (asking q (q .i) Left v)) a
-  right-turned r l v h k e = record {
-    is = (
-      h,
-      λ w.
-          still (asked-right t w q (q .i) Left k v)
-          (ap (λ (s : Side). probed (placeOf w) (q .i) (Probes.both r l) (sideOf s) v (machineOf (probing w q t) a)) (sym e)),
-    );
-  }
+  pub right-turned : (r l v : Float) (z : Turned) → TurnIs (asks (q .i) (sideOf Left) v) q t a z a → q .side ≡ Right
+      → TurnIs (λ w. probed w (q .i) (Probes.both r l) (sideOf (q .side)) v) q t a z a
+  right-turned r l v z h e =
+      turn-as z h
+      (λ w. ap (λ (s : Side). probed (placeOf w) (q .i) (Probes.both r l) (sideOf s) v (machineOf (probing w q t) a)) (sym e))
 
   -- and the value left of it
   pub left-turned : (r l v x : Float) (z : Turned) (b : List Float) → TurnIs (λ w. probedTo w (q .i) x) q t a z b → x ≡ bothQuotient r l (q .right) v

@@ -1,15 +1,15 @@
 -- A run of replies to probes: what such a reply changes of a fit, and what one more of them leaves.
-use Prim.Native.Nat.{ℕ, _+_, _<_}
+use Prim.Native.Nat.{ℕ, _<_}
 use mathlib.Core.Path.{_≡_}
 use mathlib.Core.Bool.{Bool, true, false}
 use mathlib.Core.List.{List}
 use lib.Ieee.{Float}
 use Rattle.definition.specs.Gradient as G
 use Rattle.definition.specs.Machine as M
+use Rattle.definition.specs.Driver.{askValue}
 use Rattle.fit.specs.State.{placeOf, Steps}
 use Rattle.fit.specs.declared.Fit.{Fit}
 use Rattle.fit.specs.declared.Place.{Place}
-use Rattle.fit.specs.declared.Side.{Side}
 use Rattle.fit.specs.declared.Phase.the-variants.{Probe}
 use Rattle.replies.specs.declared.Probing.{Probing}
 use Rattle.replies.specs.declared.Turned.{Turned}
@@ -21,7 +21,7 @@ probing w q t = record {
   shape = t .shape;
   options = t .options;
   limits = t .limits;
-  counters = record { nit = t .counters .nit; nfev = q .nfev; njev = t .counters .njev; drawn = q .drawn };
+  counters = q .counters;
   phase = Probe w (q .i) (q .side);
   search = t .search;
   trials = t .trials;
@@ -34,14 +34,9 @@ probing w q t = record {
   words = q .words;
 }
 
--- the probe asked after q, with the value right of it
-abbrev pub asking : Probing → ℕ → Side → Float → Probing
-asking q i side right = record { i = i; side = side; right = right; nfev = q .nfev + 1; drawn = q .drawn + 1; entries = q .entries; words = q .words }
-
--- at q another value question can be charged
-pub record Charges (q : Probing) (t : Fit) : Type 0 where
-  pub left : q .nfev < t .limits .maxfev
-  pub drawn : q .drawn < 0x4000_0000_0000_0000
+-- the probe of coordinate i on a side is asked, with the value right of it
+abbrev pub asks : ℕ → M.Side → Float → M.Place → M.Machine → M.Machine
+asks i side right w m = askValue (M.Phase.probe w i side) (M.withRight right m)
 
 -- nothing moves, or t at the probe q is taken through F to the next probe, for each place alike
 abbrev pub TurnBy : (M.Place → M.Machine → M.Machine) → Probing → Fit → List Float → Turned → List Float → Type 0

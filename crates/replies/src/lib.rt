@@ -1,7 +1,9 @@
 // Replies: the differenced gradient, coordinate by coordinate, and the notice.
 ghost use mathlib.Core.Path.{_≡_};
+ghost use mathlib.Core.List.{List};
 ghost use Prim.Native.Nat.{_-_, _≤_, _<_};
 ghost use lib.ListN.{length};
+ghost use lib.Ieee.{Float};
 ghost use Rattle.definition.specs.Gradient.{both};
 ghost use Rattle.definition.specs.Machine.{withRight};
 ghost use Rattle.definition.specs.Driver.{probeFrom, probedTo as probedToOf, probed as probedOf, onNotSupplied, onProbe, onGoOn};
@@ -9,7 +11,9 @@ ghost use Rattle.gradient.specs.Probing.{probesIn};
 ghost use Rattle.fit.specs.State.{placeOf, sideOf, Turns, Steps};
 ghost use Rattle.compact.specs.State.{Sound};
 ghost use Rattle.measure.specs.Ready.{Ready};
-ghost use Rattle.replies.specs.Runs.{probing, asking, Charges, TurnIs, unprobed, firstSide};
+ghost use Rattle.replies.specs.Runs.{probing, asks, TurnIs, unprobed, firstSide};
+use counters::Charge;
+use counters::Counters;
 use counters::Termination;
 use fit::Fit;
 use fit::Phase;
@@ -113,8 +117,7 @@ pub struct Probing {
     pub i: usize,
     pub side: Side,
     pub right: f64,
-    pub nfev: usize,
-    pub drawn: usize,
+    pub counters: Counters,
     pub entries: usize,
     pub words: usize,
 }
@@ -130,9 +133,7 @@ pub fn with_probe(t: Fit, w: Place, q: Probing) -> Fit
     ensures { λ r. ⌜ r ≡ probing w q t ⌝ }
 {
     let side = q.side;
-    let mut k = t.counters;
-    k.nfev = q.nfev;
-    k.drawn = q.drawn;
+    let k = q.counters;
     let mut f = fit::with_phase(t, Phase::Probe(w, q.i, side));
     f.counters = k;
     f.right = q.right;
@@ -164,25 +165,33 @@ fn first_side(p: Probes) -> Side
     }
 }
 
-// The next probe, of coordinate i on a side, within a budget of `most` values.
-fn asked(q: Probing, most: usize, i: usize, side: Side, right: f64) -> Probing
-    requires { ⌜ (q .nfev < most) × (q .drawn < 0x4000_0000_0000_0000) ⌝ }
-    ensures { λ r. ⌜ r ≡ asking q i side right ⌝ }
+// The next probe, of coordinate i on a side, where a value can be charged.
+fn asked(t: Fit, q: Probing, i: usize, side: Side, right: f64) -> Turned
+    requires { ⌜ i < t .shape .n ⌝ }
+    ensures { λ r. ⌜ ((a : List Float) → TurnIs (asks i (sideOf side) right) q t a r a) ⌝ }
 {
-    Probing {
+    let limits = t.limits;
+    let counters = q.counters;
+    if MOST_DRAWN <= counters.drawn {
+        return Turned::Stays;
+    }
+    let charge = counters::value_charged(limits, counters);
+    let Charge::Charged(k) = charge else {
+        return Turned::Stays;
+    };
+    Turned::On(Probing {
         i: i,
         side: side,
         right: right,
-        nfev: q.nfev + 1,
-        drawn: q.drawn + 1,
+        counters: k,
         entries: q.entries,
         words: q.words,
-    }
+    })
 }
 
 // Component i of the gradient is v, where the next coordinate is probed.
 fn passed_to(t: Fit, q: Probing, v: f64, area: &mut [f64]) -> Turned
-    requires { ⌜ Sound (t .shape) (length (now area)) × (q .i < t .shape .n) × Charges q t ⌝ }
+    requires { ⌜ Sound (t .shape) (length (now area)) × (q .i < t .shape .n) ⌝ }
     ensures { λ r. ⌜ TurnIs (λ w. probedToOf w (q .i) v) q t (now (area .entry)) r (now (area .exit)) ⌝ }
 {
     let n = t.shape.n;
@@ -197,25 +206,29 @@ fn passed_to(t: Fit, q: Probing, v: f64, area: &mut [f64]) -> Turned
     if is_unprobed(p) {
         return Turned::Stays;
     }
+    let next = asked(t, q, j, first_side(p), q.right);
+    let Turned::On(r) = next else {
+        return Turned::Stays;
+    };
     area::put(area, n, area::TRIAL_GRADIENT, q.i, v);
-    Turned::On(asked(q, t.limits.maxfev, j, first_side(p), q.right))
+    Turned::On(r)
 }
 
 // The value v at a probe of a coordinate that is probed on both sides: right before left.
 fn both_turned(t: Fit, q: Probing, right: f64, left: f64, v: f64, area: &mut [f64]) -> Turned
-    requires { ⌜ Sound (t .shape) (length (now area)) × (q .i < t .shape .n) × Charges q t ⌝ }
+    requires { ⌜ Sound (t .shape) (length (now area)) × (q .i < t .shape .n) ⌝ }
     ensures { λ r. ⌜ TurnIs (λ w. probedOf w (q .i) (both right left) (sideOf (q .side)) v) q t (now (area .entry)) r (now (area .exit)) ⌝ }
 {
     let side = q.side;
     match side {
-        Side::Right => Turned::On(asked(q, t.limits.maxfev, q.i, Side::Left, v)),
+        Side::Right => asked(t, q, q.i, Side::Left, v),
         Side::Left => passed_to(t, q, gradient::both_quotient(right, left, q.right, v), area),
     }
 }
 
 // The finite value v at a probe.
 fn probe_turned(t: Fit, q: Probing, p: Probes, v: f64, area: &mut [f64]) -> Turned
-    requires { ⌜ Sound (t .shape) (length (now area)) × (q .i < t .shape .n) × Charges q t ⌝ }
+    requires { ⌜ Sound (t .shape) (length (now area)) × (q .i < t .shape .n) ⌝ }
     ensures { λ r. ⌜ TurnIs (λ w. probedOf w (q .i) (probesIn p) (sideOf (q .side)) v) q t (now (area .entry)) r (now (area .exit)) ⌝ }
 {
     let x = area[area::TRIAL * t.shape.n + q.i];
@@ -232,12 +245,6 @@ pub fn next_probe(t: Fit, q: Probing, v: f64, area: &mut [f64]) -> Turned
     requires { ⌜ Sound (t .shape) (length (now area)) × (q .i < t .shape .n) ⌝ }
     ensures { λ r. ⌜ TurnIs (λ w. onProbe w (q .i) (sideOf (q .side)) v) q t (now (area .entry)) r (now (area .exit)) ⌝ }
 {
-    if t.limits.maxfev <= q.nfev {
-        return Turned::Stays;
-    }
-    if MOST_DRAWN <= q.drawn {
-        return Turned::Stays;
-    }
     if !float::is_finite(v) {
         return Turned::Stays;
     }

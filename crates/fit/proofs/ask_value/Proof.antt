@@ -1,23 +1,19 @@
 -- `fit::ask_value` meets its contract: the charge says whether the budget lasts. Assumes nothing.
 use mathlib.Core.Path.{_≡_, refl, sym, ap, _∙_}
-use mathlib.Core.Option.{none, some}
+use mathlib.Core.Option.{none}
 use borrow.Author.Needs.{needs}
-use Rattle.definition.specs.Counters.{Termination, Counters}
-use Rattle.definition.specs.Machine.{Phase, Machine, inPhase, counting, ending}
+use Rattle.definition.specs.Counters.{Termination}
+use Rattle.definition.specs.Machine.{Phase, Machine, ending}
 use Rattle.definition.specs.Driver.{askValue}
 use Rattle.counters.specs.Counts.{chargeOf, valueCharge}
-use Rattle.counters.proofs.Laws.{charge-made, charge-spent}
-use Rattle.fit.proofs.Laws.{turns-as}
+use Rattle.counters.proofs.Laws.{charge-spent}
+use Rattle.fit.proofs.Laws.{turns-as, charge-asks}
 use Rattle.fit.proofs.ask_value.Statement.{statement}
 use Rattle.fit.proofs.ask_value.Tie as tie
 
 spent : (p : Phase) (m : Machine) → none ≡ valueCharge (m .limits) (m .counters) → ending Termination.maxEvaluations m ≡ askValue p m
 unfolding askValue
 spent p m e = rw (charge-spent (m .limits) (m .counters) e)
-
-made : (p : Phase) (m : Machine) (k : Counters) → some k ≡ valueCharge (m .limits) (m .counters) → inPhase p (counting k m) ≡ askValue p m
-unfolding askValue
-made p m k e = let h = charge-made (m .limits) (m .counters) k e in rw (h .0, h .1)
 
 returns : tie.Need-returns
 returns c = turns-as (c .ended .ensures) (λ v. spent _ _ (sym (ap chargeOf (c .before .enum-told .given .1)) ∙ c .before .before .before .value-charged .ensures))
@@ -26,7 +22,7 @@ returns-2 : tie.Need-returns-2
 returns-2 c =
     let h = c .before .before in
     rw (c .with-phase .ensures)
-    (record { shape = refl; kept = record { options = refl; entries = refl; words = refl; settled = λ s. s }; is = λ v. made _ _ _ (sym (ap chargeOf (h .charge .given .1)) ∙ h .before .before .value-charged .ensures) })
+    (record { shape = refl; kept = record { options = refl; entries = refl; words = refl; settled = λ s. s }; is = λ v. charge-asks _ _ _ (sym (ap chargeOf (h .charge .given .1)) ∙ h .before .before .value-charged .ensures) })
 
 pub ask-value-spec : {M : Type 1} → statement M
 ask-value-spec =

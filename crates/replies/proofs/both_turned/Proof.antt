@@ -7,9 +7,8 @@ use Rattle.replies.proofs.both_turned.Tie as tie
 
 returns : tie.Need-returns
 returns c =
-    let s = c .before .before .before .before in
-    let a = s .args in
-    rw (c .asked .ensures) (right-turned (a .q) (a .t) (now (a .area)) (a .right) (a .left) (a .v) (s .pre .1) (s .pre .2 .left) (c .before .enum-told .given .1))
+    let a = c .before .before .before .before .args in
+    right-turned (a .q) (a .t) (now (a .area)) (a .right) (a .left) (a .v) _ (c .asked .ensures (now (a .area))) (c .before .enum-told .given .1)
 
 returns-2 : tie.Need-returns-2
 returns-2 c =

@@ -8,17 +8,17 @@ use Rattle.replies.proofs.Runs.{component-turned}
 use Rattle.replies.proofs.passed_to.Statement.{statement}
 use Rattle.replies.proofs.passed_to.Tie as tie
 
-returns-3 : tie.Need-returns-3
-returns-3 c =
-    let p = c .before .before .before .before in
-    let u = p .before .before .before in
+returns-4 : tie.Need-returns-4
+returns-4 c =
+    let k = c .before .before .before .before .before in
+    let f = k .before .before .before in
+    let u = f .before .before in
     let i = u .before .before .before .before in
     let s = i .before .before .before in
     let a = s .args in
-    rw (c .asked .ensures)
-    (component-turned (a .q) (a .t) (now (a .area)) (a .v) _ _ _ (i .if1 .left) (s .pre .2 .left)
-    (u .before .probes-by .ensures ∙ probes-read (a .t) (now (a .area)) (a .q .i + 1) (i .if1 .left)) (sym (u .is-unprobed .ensures) ∙ p .before .before .if2 .left)
-    (c .before .first-side .ensures) (p .put .ensures))
+    component-turned (a .q) (a .t) (now (a .area)) (a .v) _ (f .first-side .result) _ _ _ (i .if1 .left)
+    (u .before .probes-by .ensures ∙ probes-read (a .t) (now (a .area)) (a .q .i + 1) (i .if1 .left)) (sym (u .is-unprobed .ensures) ∙ f .before .if2 .left)
+    (f .first-side .ensures) (k .before .before .asked .ensures) (k .next .given .1) (c .before .before .put .ensures)
 
 pub passed-to-spec : {M : Type 1} → statement M
 passed-to-spec =
@@ -32,6 +32,10 @@ passed-to-spec =
     (λ c. search needs)
     (λ c κs. search needs)
     (λ c κs. search needs)
+    (λ c. search needs)
+    (λ c. search needs)
+    (λ c. search needs)
+    (λ c. search needs)
     (λ c κs. search needs)
     (λ c. search needs)
-    returns-3)
+    returns-4)
