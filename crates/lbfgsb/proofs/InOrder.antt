@@ -13,7 +13,8 @@ use Rattle.definition.specs.Ordered.{Ordered, logInOrder, orderedAfter, inOrder
 use Rattle.definition.proofs.Ordered.{ordered-history, ordered-answers}
 use Rattle.lbfgsb.specs.Words.{Words, lengths, Holds}
 use Rattle.lbfgsb.specs.Chain.{Chain, Allowed, FitIn, HasOrdered, InOrder}
-use Rattle.lbfgsb.proofs.Trace.{Called, fitted, after}
+use Rattle.lbfgsb.proofs.Lists.{fitted}
+use Rattle.lbfgsb.proofs.Trace.{Called, after}
 
 log-append : (qs : List Reply) (r : Reply) → logInOrder (qs ++ (r ∷ [])) ≡ logInOrder qs ++ entryWords r
 log-append [] r = append-nil (entryWords r)

@@ -6,6 +6,7 @@ pub mod Said
 pub mod Reading
 pub mod Areas
 pub mod Determined
+pub mod Lists
 pub mod Trace
 pub mod InOrder
 pub mod Alike

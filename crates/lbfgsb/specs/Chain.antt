@@ -19,7 +19,7 @@ use Rattle.definition.specs.Compact.{wrap}
 use Rattle.definition.specs.Machine.{Reply, Question, Report, question as questionOf, report as reportOf, unreported}
 use Rattle.definition.specs.Driver.{run}
 use Rattle.definition.specs.Log.{logWords}
-use Rattle.definition.specs.Record.{plainRefusal, recordWords, recordBytes}
+use Rattle.definition.specs.Record.{Lengths, plainRefusal, recordWords, recordBytes}
 use Rattle.definition.specs.Replies.{isValue, isNotice, isFailure, countOf, openOf, firstValue}
 use Rattle.definition.specs.Facts.{gradientsCompleted}
 use Rattle.definition.specs.Points.{lastTaken, OwnOf, InBox}
@@ -30,7 +30,7 @@ use Rattle.area.specs.Area.{Vecs, view, X, G, Lower, Upper, X0, Trial, TrialGra
 use Rattle.compact.specs.State.{pairAt}
 use Rattle.compact.specs.declared.Shape.{Shape}
 use Rattle.driver.specs.Replies.{isHeld, marked}
-use Rattle.lbfgsb.specs.Words.{Words, lengths}
+use Rattle.lbfgsb.specs.Words.{Words, lengths, Holds}
 use Rattle.lbfgsb.specs.Did.{Zeroed}
 
 -- ---- lists of calls
@@ -93,6 +93,16 @@ pub record KeepsNone (D : Call → Words → Words → Answer → Type 0) (w : W
   pub replies : {o : Answer} {v : Words} → D Call.replies w v o → o ≡ Answer.counted 0
   pub entry : {k room : ℕ} {o : Answer} {v : Words} → D (Call.entry k room) w v o → o ≡ Answer.entered []
   pub save : {room : ℕ} {o : Answer} {v : Words} → D (Call.save room) w v o → o ≡ Answer.saved []
+
+-- ---- a history and the calls after it
+
+-- From the history h, with area and log of the lengths z, the calls cs were answered os and left w'.
+pub record After (z : Lengths) (h : History) (cs : List Call) (os : List Answer) (w' : Words) : Type 0 where
+  -- the words hold the history after the calls
+  pub holds : Holds w' (historyAfter z h cs)
+  -- every answer is the history's
+  pub said : os ≡ historyAnswers z h cs
+  pub sized : lengths w' ≡ z
 
 -- ---- demand 3
 

@@ -75,6 +75,23 @@ pub record Restored (bs : List ℕ) (w w' : Words) (o : H.Answer) : Type 0 where
   -- the log's words past the entries are as they were
   pub past : drop (w' .state .words) (w' .log) ≡ drop (w' .state .words) (w .log) ⊎ (w' .log ≡ w .log)
 
+-- what an opening or a reading in tells of any words
+abbrev pub Opening : Call → Words → Words → H.Answer → Type 0
+Opening (Call.start s) w w' o = Started s w w' o
+Opening (Call.restore bs) w w' o = Restored bs w w' o
+Opening (Call.reply r) w w' o = Unit {0}
+Opening (Call.takeBack j) w w' o = Unit {0}
+Opening (Call.question room) w w' o = Unit {0}
+Opening (Call.report room) w w' o = Unit {0}
+Opening Call.replies w w' o = Unit {0}
+Opening (Call.entry k room) w w' o = Unit {0}
+Opening (Call.save room) w w' o = Unit {0}
+
+-- what the claim on every list of calls rests on, of each call: c at the words w left w' and answered o
+pub record Stepped (c : Call) (w w' : Words) (o : H.Answer) : Type 0 where
+  pub did : Did c w w' o
+  pub opening : Opening c w w' o
+
 -- reply: with any words that pass the test, the machine is advanced by the reply and its entry stands in the log
 abbrev pub checkAt : Words → M.Reply → Check
 checkAt w r = checkDue (machineIn w) r then when (ltb (length (w .log)) (w .state .words + length (entryWords r))) (refuse 12 0 0)
