@@ -6,6 +6,7 @@
 --    meet these contracts. So no contract can be weakened without a refusal here.
 --    A shared slice has one value throughout a call, so a read leaves the words as they were; a function that is not lent the log leaves it as it was.
 -- 2. `every-list` is the claim from words that hold no fit, `every-opened-list` from any words, for a list that begins with an accepted opening or reading in.
+--    The induction stands in Lists, over any relation of one call; two facts of `Called` are put there, `did` and `opening`.
 -- Beside this file, from the same `Called`: InOrder has the claim with the replies in the order given, Consequences what a report says once there is a value
 -- reply and no failure, Alike what lists with equal histories leave (Determined and Areas show that the words are determined), Leaves what a call does not
 -- touch, Outputs what it writes, Records what is saved and read in again.

@@ -11,16 +11,19 @@ use lib.Dec.{leb}
 use lib.ListN.{length, getD, take, drop, replicate}
 use lib.Ieee.{Float}
 use Rattle.definition.specs.Number.{zero64}
-use Rattle.definition.specs.Record.{Lengths}
 use Rattle.definition.specs.Problem as P
+use Rattle.definition.specs.Problem.{validate, _then_}
+use Rattle.definition.specs.Machine as M
+use Rattle.definition.specs.Record.{Reading, checkArea, readRecord}
 use Rattle.definition.specs.History as H
-use Rattle.definition.specs.History.{Call, History, historyStep, historyAnswer, historyAfter, historyAnswers}
+use Rattle.definition.specs.History.{Call, History, restoredAnswer, historyStep, historyAfter, historyAnswers}
 use Rattle.problem.specs.Setups.{refusalOf}
 use Rattle.fit.specs.declared.Fit.{Fit}
 use Rattle.driver.specs.declared.Reply.{Reply}
-use Rattle.driver.proofs.Laws.{zeroed-unheld}
 use Rattle.lbfgsb.specs.Words.{Words, words, lengths, Holds, replied, next, kept, asked, told, entered, saved}
-use Rattle.lbfgsb.specs.Did.{Did, Read, Counted}
+use Rattle.lbfgsb.specs.Did.{Did, Opening, Stepped, Read, Counted, refusedBy}
+use Rattle.lbfgsb.specs.Chain.{Chain, Opens, Allowed}
+use Rattle.lbfgsb.proofs.Lists.{stepped, sized, from, after, every, zeros-blank}
 use Rattle.lbfgsb.specs.declared.Answer.{Answer}
 use Rattle.lbfgsb.specs.declared.Answer.the-variants as A
 use Rattle.lbfgsb.specs.declared.Asked.{Asked}
@@ -29,7 +32,7 @@ use Rattle.lbfgsb.specs.declared.Told.{Told}
 use Rattle.lbfgsb.specs.declared.Told.the-variants as T
 use Rattle.lbfgsb.specs.declared.Wrote.{Wrote}
 use Rattle.lbfgsb.specs.declared.Wrote.the-variants as W
-use Rattle.script.specs.Script.{partOf, spanOf, Spans, Given, given, callOf, called, calledAt, calls, unrunAs, ranAs, askedAs, toldAs, enteredAs, savedAs, shown, lastOf, Runs}
+use Rattle.script.specs.Script.{partOf, spanOf, Spans, Given, given, callOf, called, calledAt, calls, unrunAs, ranAs, askedAs, toldAs, enteredAs, savedAs, shown, lastOf, Shows, Runs}
 use Rattle.script.specs.declared.Shown.{Shown}
 use Rattle.script.specs.declared.Ran.{Ran}
 use Rattle.script.specs.declared.Called.{Called}
@@ -59,56 +62,44 @@ part-is a b s r p = ap (λ (x : Span). take (x .to - x .from) (drop (x .from) s)
 -- ---- one call
 
 -- the same call by another name
-pub did-as : (c c' : Call) (w w' : Words) (o : H.Answer) → c ≡ c' → Did c' w w' o → Did c w w' o
-did-as c c' w w' o q d = subst (λ (x : Call). Did x w w' o) (sym q) d
+pub step-as : (c c' : Call) (w w' : Words) (o : H.Answer) → c ≡ c' → Stepped c' w w' o → Stepped c w w' o
+step-as c c' w w' o q d = subst (λ (x : Call). Stepped x w w' o) (sym q) d
 
 pub reply-same :
     (r r' : Reply) (ws ws' : List ℕ) → r ≡ r' → ws ≡ ws' → Call.reply (replied r' ws') ≡ Call.reply (replied r ws)
 reply-same r r' ws ws' e q = ap (λ (x : Reply). Call.reply (replied x ws')) (sym e) ∙ ap (λ (x : List ℕ). Call.reply (replied r x)) (sym q)
 
--- a call and its answer are a list of one
-pub one-did :
-    (c c' : Call) (w w' : Words) (o : Option H.Answer) (o' : H.Answer) → c ≡ c' → o ≡ some o' → Did c' w w' o' → Runs (c ∷ []) w w' o
-unfolding historyAfter historyAnswers
-one-did c c' w w' o o' q e d =
-    let d' : Did c w w' o' = did-as c c' w w' o' q d in
-    record { sized = d' .sized; holds = d' .holds; last = λ h x. e ∙ ap some (d' .said h x) }
-
-pub runs-as : (c c' : Call) (w w' : Words) (o : Option H.Answer) → c ≡ c' → Runs (c' ∷ []) w w' o → Runs (c ∷ []) w w' o
-runs-as c c' w w' o q d = subst (λ (x : Call). Runs (x ∷ []) w w' o) (sym q) d
+pub shows-as : (c c' : Call) (w w' : Words) (o : Option H.Answer) → c ≡ c' → Shows c' w w' o → Shows c w w' o
+shows-as c c' w w' o q d = record { answer = d .answer; is = d .is; step = step-as c c' w w' (d .answer) q (d .step) }
 
 kept-go :
     (c : Call) (f : Fit) (w : Words) (a' : List Float) (l' : List ℕ) (z : Answer) (p : List Float) (fo b : List ℕ)
-    → Did c w (words (next f z) a' l') (kept z)
-    → Runs (c ∷ []) w (words (ranAs f z .fit) a' l') (shown (ranAs f z .last) (ranAs f z .fit .shape .n) p fo b)
-kept-go c f w a' l' (A.Kept g) p fo b d = one-did c c w (words g a' l') (some H.Answer.done) H.Answer.done refl refl d
-kept-go c f w a' l' (A.Refused n) p fo b d =
-    one-did c c w (words f a' l') (some (H.Answer.refused (refusalOf n))) (H.Answer.refused (refusalOf n)) refl refl d
+    → Stepped c w (words (next f z) a' l') (kept z)
+    → Shows c w (words (ranAs f z .fit) a' l') (shown (ranAs f z .last) (ranAs f z .fit .shape .n) p fo b)
+kept-go c f w a' l' (A.Kept g) p fo b d = record { answer = H.Answer.done; is = refl; step = d }
+kept-go c f w a' l' (A.Refused n) p fo b d = record { answer = H.Answer.refused (refusalOf n); is = refl; step = d }
 
 -- a call that changes the words
-pub kept-did :
+pub kept-shows :
     (c c' : Call) (f : Fit) (w : Words) (a' : List Float) (l' : List ℕ) (z : Answer) (r : Ran) (p : List Float) (fo b : List ℕ)
-    → c ≡ c' → r ≡ ranAs f z → Did c' w (words (next f z) a' l') (kept z)
-    → Runs (c ∷ []) w (words (r .fit) a' l') (shown (r .last) (r .fit .shape .n) p fo b)
-kept-did c c' f w a' l' z r p fo b q e d =
-    runs-as c c' w (words (r .fit) a' l') (shown (r .last) (r .fit .shape .n) p fo b) q
-    (subst (λ (x : Ran). Runs (c' ∷ []) w (words (x .fit) a' l') (shown (x .last) (x .fit .shape .n) p fo b)) (sym e)
-    (kept-go c' f w a' l' z p fo b d))
+    → c ≡ c' → r ≡ ranAs f z → Stepped c' w (words (next f z) a' l') (kept z)
+    → Shows c w (words (r .fit) a' l') (shown (r .last) (r .fit .shape .n) p fo b)
+kept-shows c c' f w a' l' z r p fo b q e d =
+    subst (λ (x : Ran). Shows c w (words (x .fit) a' l') (shown (x .last) (x .fit .shape .n) p fo b)) (sym e)
+    (kept-go c f w a' l' z p fo b (step-as c c' w (words (next f z) a' l') (kept z) q d))
 
 -- a call that leaves them
-pub read-did :
+pub read-shows :
     {X : Type 0} (c c' : Call) (w : Words) (o : Option H.Answer) (o' any : H.Answer) (out out' : List X) → c ≡ c' → o ≡ some o'
-    → ((h : History) → historyStep (lengths w) h c' ≡ h) → Read c' w o' any out out' → Runs (c ∷ []) w w o
-read-did c c' w o o' any out out' q e stays r =
-    one-did c c' w w o o' q e (record {
-      sized = refl;
-      holds = λ h x. subst (λ (y : History). Holds w y) (sym (stays h)) x;
-      said = r .said;
-    })
+    → ((h : History) → historyStep (lengths w) h c' ≡ h) → Opening c' w w o' → Read c' w o' any out out' → Shows c w w o
+read-shows c c' w o o' any out out' q e stays p r =
+    let d : Did c' w w o' = record { sized = refl; holds = λ h x. subst (λ (y : History). Holds w y) (sym (stays h)) x; said = r .said } in
+    record { answer = o'; is = e; step = step-as c c' w w o' q (record { did = d; opening = p }) }
 
-pub count-did : (c : Call) (w : Words) (k : ℕ) → c ≡ Call.replies → Counted k w → Runs (c ∷ []) w w (some (H.Answer.counted k))
-count-did c w k q r =
-    one-did c Call.replies w w (some (H.Answer.counted k)) (H.Answer.counted k) q refl (record { sized = refl; holds = λ h x. x; said = r .said })
+pub count-shows : (c : Call) (w : Words) (k : ℕ) → c ≡ Call.replies → Counted k w → Shows c w w (some (H.Answer.counted k))
+count-shows c w k q r =
+    let d : Did Call.replies w w (H.Answer.counted k) = record { sized = refl; holds = λ h x. x; said = r .said } in
+    shows-as c Call.replies w w (some (H.Answer.counted k)) q (record { answer = H.Answer.counted k; is = refl; step = record { did = d; opening = tt } })
 
 asked-go : (q : Asked) (n : ℕ) (p : List Float) (f b : List ℕ) → shown (askedAs q) n p f b ≡ some (asked q n p)
 asked-go Q.Nothing n p f b = refl
@@ -182,17 +173,32 @@ calls-all g (op ∷ a ∷ b ∷ s) =
 
 -- ---- one call more
 
-pub after-one : (z : Lengths) (h : History) (cs : List Call) (c : Call) → historyAfter z h (cs ++ (c ∷ [])) ≡ historyStep z (historyAfter z h cs) c
-unfolding historyAfter
-after-one z h [] c = refl
-after-one z h (d ∷ cs) c = after-one z (historyStep z h d) cs c
+-- all that is claimed of a chain of steps
+runs : {cs : List Call} {w w' : Words} {o : Option H.Answer} (os : List H.Answer) → Chain Stepped w cs os w' → o ≡ lastOf none os → Runs cs w w' o
+runs {w = w} os ch e = record {
+  answers = os;
+  steps = ch;
+  last = e;
+  sized = sized stepped ch;
+  after = λ h k. from stepped ch (lengths w) h refl k;
+  allowed = λ p. after stepped p ch;
+  demand = λ p. every stepped p ch;
+}
 
-last-one :
-    (z : Lengths) (h : History) (o : Option H.Answer) (cs : List Call) (c : Call)
-    → lastOf o (historyAnswers z h (cs ++ (c ∷ []))) ≡ some (historyAnswer z (historyAfter z h cs) c)
-unfolding historyAfter historyAnswers
-last-one z h o [] c = refl
-last-one z h o (d ∷ cs) c = last-one z (historyStep z h d) (some (historyAnswer z h d)) cs c
+last-one : (p : Option H.Answer) (os : List H.Answer) (o : H.Answer) → lastOf p (os ++ (o ∷ [])) ≡ some o
+last-one p [] o = refl
+last-one p (q ∷ os) o = last-one (some q) os o
+
+chain-one :
+    {cs : List Call} {os : List H.Answer} {c : Call} {o : H.Answer} {w w' w'' : Words} → Chain Stepped w cs os w' → Stepped c w' w'' o
+    → Chain Stepped w (cs ++ (c ∷ [])) (os ++ (o ∷ [])) w''
+chain-one Chain.end d = Chain.call d Chain.end
+chain-one (Chain.call e ds) d = Chain.call e (chain-one ds d)
+
+ran-one :
+    (cs : List Call) (c : Call) (w w' w'' : Words) (o o' : Option H.Answer) → Runs cs w w' o → Shows c w' w'' o' → Runs (cs ++ (c ∷ [])) w w'' o'
+ran-one cs c w w' w'' o o' r d =
+    runs (r .answers ++ (d .answer ∷ [])) (chain-one (r .steps) (d .step)) (d .is ∙ sym (last-one none (r .answers) (d .answer)))
 
 -- the outputs keep their lengths
 pub given-same :
@@ -201,8 +207,8 @@ given-same s gs input p p' f f' b b' e₁ e₂ e₃ =
     ap (λ (x : ℕ). given s gs input x f' b') e₁ ∙ ap (λ (x : ℕ). given s gs input p x b') e₂ ∙ ap (λ (x : ℕ). given s gs input p f x) e₃
 
 none-ran : (g : Given) (s : List ℕ) (w : Words) → Runs (callsTo g s 0) w w none
-unfolding callsTo historyAfter historyAnswers
-none-ran g s w = record { sized = refl; holds = λ h x. x; last = λ h x. refl }
+unfolding callsTo
+none-ran g s w = runs [] Chain.end refl
 
 pub ran-none :
     (g : Given) (s : List ℕ) (f : Fit) (r : Ran) (a : List Float) (l : List ℕ) (p : List Float) (fo b : List ℕ) → r ≡ unrunAs f
@@ -211,28 +217,12 @@ ran-none g s f r a l p fo b e =
     subst (λ (x : Ran). Runs (callsTo g s 0) (words (x .fit) a l) (words (x .fit) a l) (shown (x .last) (x .fit .shape .n) p fo b)) (sym e)
     (none-ran g s (words f a l))
 
-ran-one :
-    (cs : List Call) (c : Call) (w w' w'' : Words) (o o' : Option H.Answer) → Runs cs w w' o → Runs (c ∷ []) w' w'' o'
-    → Runs (cs ++ (c ∷ [])) w w'' o'
-unfolding historyAfter historyAnswers
-ran-one cs c w w' w'' o o' r d = record {
-  sized = d .sized ∙ r .sized;
-  holds = λ h x.
-      subst (λ (y : History). Holds w'' y)
-      (ap (λ (z : Lengths). historyStep z (historyAfter (lengths w) h cs) c) (r .sized) ∙ sym (after-one (lengths w) h cs c))
-      (d .holds (historyAfter (lengths w) h cs) (r .holds h x));
-  last = λ h x.
-      d .last (historyAfter (lengths w) h cs) (r .holds h x)
-      ∙ ap (λ (z : Lengths). some (historyAnswer z (historyAfter (lengths w) h cs) c)) (r .sized)
-      ∙ sym (last-one (lengths w) h none cs c);
-}
-
 pub ran-more :
     (g g' : Given) (s : List ℕ) (i : ℕ) (k : Called) (w w' w'' : Words) (o o' : Option H.Answer) → g' ≡ g → k ≡ calledAt s i
-    → Runs (callsTo g s i) w w' o → Runs (callOf g' k ∷ []) w' w'' o' → Runs (callsTo g s (i + 1)) w w'' o'
+    → Runs (callsTo g s i) w w' o → Shows (callOf g' k) w' w'' o' → Runs (callsTo g s (i + 1)) w w'' o'
 unfolding callsTo
 ran-more g g' s i k w w' w'' o o' e q r d =
-    rw add-one (ran-one (callsTo g s i) (callAt g s i) w w' w'' o o' r (subst (λ (x : Call). Runs (x ∷ []) w' w'' o') (ap (callOf g') q ∙ ap (λ (x : Given). callAt x s i) e) d))
+    rw add-one (ran-one (callsTo g s i) (callAt g s i) w w' w'' o o' r (subst (λ (x : Call). Shows x w' w'' o') (ap (callOf g') q ∙ ap (λ (x : Given). callAt x s i) e) d))
 
 -- all calls, from the state given
 pub ran-all :
@@ -242,11 +232,32 @@ ran-all g s i f r a l w' o e q d =
     subst (λ (cs : List Call). Runs cs (words f a l) w' o) (ap (callsTo g s) e ∙ calls-all g s)
     (subst (λ (x : Ran). Runs (callsTo g s i) (words (x .fit) a l) w' o) q d)
 
--- ---- a script from nothing
+-- ---- a script from an allowed start
 
--- an area of zeros holds no fit: what a script leaves and answers is what the history does that starts empty
+-- what a caller sees: the words after and the answer shown are those of the history that starts empty
+pub from-allowed :
+    (cs : List Call) (w w' : Words) (o : Option H.Answer) (r : Runs cs w w' o) → Allowed w cs (r .answers)
+    → Holds w' (historyAfter (lengths w) History.empty cs) × (o ≡ lastOf none (historyAnswers (lengths w) History.empty cs))
+from-allowed cs w w' o r p = (r .allowed p .holds, r .last ∙ ap (lastOf none) (r .allowed p .said))
+
+-- an area of zeros holds no fit
 pub from-zeros :
     (cs : List Call) (f : Fit) (k : ℕ) (l : List ℕ) (w' : Words) (o : Option H.Answer) → Runs cs (words f (replicate k zero64) l) w' o
     → Holds w' (historyAfter (lengths w') History.empty cs) × (o ≡ lastOf none (historyAnswers (lengths w') History.empty cs))
 from-zeros cs f k l w' o r =
-    rw (r .sized) (r .holds History.empty (zeroed-unheld f k), r .last History.empty (zeroed-unheld f k))
+    let w = words f (replicate k zero64) l in
+    rw (r .sized) (from-allowed cs w w' o r (Allowed.blank (zeros-blank w k refl)))
+
+-- from any words: a first call that the definition accepts opens a fit
+pub start-opens :
+    {s : P.Setup} {cs : List Call} {os : List H.Answer} {w w' : Words} → Chain Stepped w (Call.start s ∷ cs) os w'
+    → (validate s then checkArea (lengths w) s) ≡ none → Allowed w (Call.start s ∷ cs) os
+start-opens {s} {cs} {w = w} (Chain.call {os = os} d ds) e =
+    subst (λ (o : H.Answer). Allowed w (Call.start s ∷ cs) (o ∷ os)) (sym (d .opening .always ∙ ap (λ (c : P.Check). refusedBy c H.Answer.done) e))
+    (Allowed.opens Opens.started)
+
+pub restore-opens :
+    {bs : List ℕ} {s : P.Setup} {rs : List M.Reply} {cs : List Call} {os : List H.Answer} {w w' : Words} → Chain Stepped w (Call.restore bs ∷ cs) os w'
+    → readRecord (lengths w) bs ≡ Reading.accepted s rs → Allowed w (Call.restore bs ∷ cs) os
+restore-opens {bs} {cs = cs} {w = w} (Chain.call {os = os} d ds) e =
+    subst (λ (o : H.Answer). Allowed w (Call.restore bs ∷ cs) (o ∷ os)) (sym (d .opening .always ∙ ap restoredAnswer e)) (Allowed.opens Opens.restored)

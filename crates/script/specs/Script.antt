@@ -9,13 +9,15 @@ use lib.ListN.{length, getD, take, drop}
 use lib.Ieee.{Float}
 use Rattle.definition.specs.Problem as P
 use Rattle.definition.specs.History as H
-use Rattle.definition.specs.History.{Call, History, historyAfter, historyAnswers}
+use Rattle.definition.specs.History.{Call, History}
 use Rattle.problem.specs.Setups.{refusalOf}
 use Rattle.fit.specs.declared.Fit.{Fit}
 use Rattle.question.specs.Reports.{reportOf}
 use Rattle.driver.specs.declared.Reply.{Reply}
 use Rattle.driver.specs.declared.Reply.the-variants as R
 use Rattle.lbfgsb.specs.Words.{Words, lengths, Holds, replied}
+use Rattle.lbfgsb.specs.Did.{Stepped}
+use Rattle.lbfgsb.specs.Chain.{Chain, Allowed, After, Demand}
 use Rattle.lbfgsb.specs.declared.Answer.{Answer}
 use Rattle.lbfgsb.specs.declared.Answer.the-variants as A
 use Rattle.lbfgsb.specs.declared.Asked.{Asked}
@@ -147,9 +149,25 @@ lastOf o (p ∷ os) = lastOf (some p) os
 
 -- ---- what calls do
 
--- the calls cs at the words w left w', and the last of them answered o: whatever history the words hold,
--- they hold the one after the calls, and the answer is its last
+-- the call c at the words w left w' and showed o
+pub record Shows (c : Call) (w w' : Words) (o : Option H.Answer) : Type 0 where
+  pub answer : H.Answer
+  pub is : o ≡ some answer
+  pub step : Stepped c w w' answer
+
+-- The calls cs from the words w on left w', and o is shown at the end: the claim of the theorem on every list of calls, of the calls that were made.
 pub record Runs (cs : List Call) (w w' : Words) (o : Option H.Answer) : Type 0 where
+  -- all answers, one a call, in the order of the calls
+  pub answers : List H.Answer
+  -- each call at the words that the last one left; for an opening or a reading in, `Stepped` says what it does at any words
+  pub steps : Chain Stepped w cs answers w'
+  -- what is shown is the last answer, or nothing where there is no call
+  pub last : o ≡ lastOf none answers
+  -- area and log keep their lengths, whatever the words are
   pub sized : lengths w' ≡ lengths w
-  pub holds : (h : History) → Holds w h → Holds w' (historyAfter (lengths w) h cs)
-  pub last : (h : History) → Holds w h → o ≡ lastOf none (historyAnswers (lengths w) h cs)
+  -- whatever history the words hold: every answer is the history's, and the words after hold the history after the calls
+  pub after : (h : History) → Holds w h → After (lengths w) h cs answers w'
+  -- the same of the empty history, from an area all zero, or from any words where the list begins with an accepted opening or reading in
+  pub allowed : Allowed w cs answers → After (lengths w) History.empty cs answers w'
+  -- and there the theorem's claim: whether a fit is held, what calls find in the words after, and what any further list is answered
+  pub demand : Allowed w cs answers → Demand Stepped w cs answers w'

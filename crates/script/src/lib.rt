@@ -1,13 +1,13 @@
 // Runs a script of calls of the exported operations, three words to a call, each at the words that the last one left.
 ghost use mathlib.Core.Path.{_≡_};
-ghost use mathlib.Core.List.{List, [], _∷_};
+ghost use mathlib.Core.List.{List};
 ghost use Prim.Native.Nat.{ℕ, _+_, _*_, _<_};
 ghost use lib.ListN.{length};
 ghost use Rattle.definition.specs.History.{Call};
 ghost use Rattle.problem.specs.Setups.{setupIn};
 ghost use Rattle.lbfgsb.specs.Words.{words, replied, next, kept};
-ghost use Rattle.lbfgsb.specs.Did.{Did};
-ghost use Rattle.script.specs.Script.{Spans, partOf, replyAt, changeOf, pointOf, readOf, given, callOf, calledAt, unrunAs, ranAs, askedAs, toldAs, enteredAs, savedAs, shown, calls, Runs};
+ghost use Rattle.lbfgsb.specs.Did.{Stepped};
+ghost use Rattle.script.specs.Script.{Spans, partOf, replyAt, changeOf, pointOf, readOf, given, callOf, calledAt, unrunAs, ranAs, askedAs, toldAs, enteredAs, savedAs, shown, calls, Shows, Runs};
 use driver::Reply;
 use fit::Fit;
 use lbfgsb::Answer;
@@ -106,7 +106,7 @@ fn reply_at(op: u64, a: u64) -> Reply
 // ---- calls that change the words
 
 fn replied_with(c: Called, gradients: &[u64], fit: Fit, area: &mut [f64], log: &mut [u64]) -> Answer
-    ensures { λ r. ⌜ Did (Call.reply (replied (replyAt (c .op) (c .a)) (partOf (c .a) (c .b) (now (gradients .entry))))) (words fit (now (area .entry)) (now (log .entry))) (words (next fit r) (now (area .exit)) (now (log .exit))) (kept r) ⌝ }
+    ensures { λ r. ⌜ Stepped (Call.reply (replied (replyAt (c .op) (c .a)) (partOf (c .a) (c .b) (now (gradients .entry))))) (words fit (now (area .entry)) (now (log .entry))) (words (next fit r) (now (area .exit)) (now (log .exit))) (kept r) ⌝ }
 {
     let s = span_of(c.a, c.b, gradients.len());
     let from = s.from;
@@ -116,7 +116,7 @@ fn replied_with(c: Called, gradients: &[u64], fit: Fit, area: &mut [f64], log: &
 }
 
 fn restored_from(c: Called, input: &[u8], fit: Fit, area: &mut [f64], log: &mut [u64]) -> Answer
-    ensures { λ r. ⌜ Did (Call.restore (partOf (c .a) (c .b) (now (input .entry)))) (words fit (now (area .entry)) (now (log .entry))) (words (next fit r) (now (area .exit)) (now (log .exit))) (kept r) ⌝ }
+    ensures { λ r. ⌜ Stepped (Call.restore (partOf (c .a) (c .b) (now (input .entry)))) (words fit (now (area .entry)) (now (log .entry))) (words (next fit r) (now (area .exit)) (now (log .exit))) (kept r) ⌝ }
 {
     let s = span_of(c.a, c.b, input.len());
     let from = s.from;
@@ -137,7 +137,7 @@ fn changed(
     area: &mut [f64],
     log: &mut [u64],
 ) -> Answer
-    ensures { λ r. ⌜ Did (changeOf (setupIn o (now (x0 .entry)) (now (lower .entry)) (now (upper .entry))) (now (gradients .entry)) (now (input .entry)) c) (words fit (now (area .entry)) (now (log .entry))) (words (next fit r) (now (area .exit)) (now (log .exit))) (kept r) ⌝ }
+    ensures { λ r. ⌜ Stepped (changeOf (setupIn o (now (x0 .entry)) (now (lower .entry)) (now (upper .entry))) (now (gradients .entry)) (now (input .entry)) c) (words fit (now (area .entry)) (now (log .entry))) (words (next fit r) (now (area .exit)) (now (log .exit))) (kept r) ⌝ }
 {
     let op = c.op;
     if op == 0 {
@@ -208,7 +208,7 @@ fn saved_as(w: Wrote) -> Shown
 
 // Op 9, the question, or the report.
 fn pointed(op: u64, fit: Fit, area: &[f64], point: &mut [f64]) -> Shown
-    ensures { λ r. ⌜ ((l f b : List ℕ) → Runs (pointOf (length (now (point .entry))) op ∷ []) (words fit (now (area .entry)) l) (words fit (now (area .entry)) l) (shown r (fit .shape .n) (now (point .exit)) f b)) ⌝ }
+    ensures { λ r. ⌜ ((l f b : List ℕ) → Shows (pointOf (length (now (point .entry))) op) (words fit (now (area .entry)) l) (words fit (now (area .entry)) l) (shown r (fit .shape .n) (now (point .exit)) f b)) ⌝ }
 {
     if op == 9 {
         let q = lbfgsb::question(fit, area, point);
@@ -228,7 +228,7 @@ fn read(
     found: &mut [u64],
     bytes: &mut [u8],
 ) -> Shown
-    ensures { λ r. ⌜ Runs (readOf (length (now (point .entry))) (length (now (found .entry))) (length (now (bytes .entry))) c ∷ []) (words fit (now (area .entry)) (now (log .entry))) (words fit (now (area .entry)) (now (log .entry))) (shown r (fit .shape .n) (now (point .exit)) (now (found .exit)) (now (bytes .exit))) ⌝ }
+    ensures { λ r. ⌜ Shows (readOf (length (now (point .entry))) (length (now (found .entry))) (length (now (bytes .entry))) c) (words fit (now (area .entry)) (now (log .entry))) (words fit (now (area .entry)) (now (log .entry))) (shown r (fit .shape .n) (now (point .exit)) (now (found .exit)) (now (bytes .exit))) ⌝ }
 {
     let op = c.op;
     if op < 11 {
@@ -263,7 +263,7 @@ fn step(
     found: &mut [u64],
     bytes: &mut [u8],
 ) -> Ran
-    ensures { λ r. ⌜ Runs (callOf (given (setupIn o (now (x0 .entry)) (now (lower .entry)) (now (upper .entry))) (now (gradients .entry)) (now (input .entry)) (length (now (point .entry))) (length (now (found .entry))) (length (now (bytes .entry)))) c ∷ []) (words (ran .fit) (now (area .entry)) (now (log .entry))) (words (r .fit) (now (area .exit)) (now (log .exit))) (shown (r .last) (r .fit .shape .n) (now (point .exit)) (now (found .exit)) (now (bytes .exit))) ⌝ }
+    ensures { λ r. ⌜ Shows (callOf (given (setupIn o (now (x0 .entry)) (now (lower .entry)) (now (upper .entry))) (now (gradients .entry)) (now (input .entry)) (length (now (point .entry))) (length (now (found .entry))) (length (now (bytes .entry)))) c) (words (ran .fit) (now (area .entry)) (now (log .entry))) (words (r .fit) (now (area .exit)) (now (log .exit))) (shown (r .last) (r .fit .shape .n) (now (point .exit)) (now (found .exit)) (now (bytes .exit))) ⌝ }
 {
     let fit = ran.fit;
     if c.op < 9 {

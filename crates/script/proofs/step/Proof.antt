@@ -1,6 +1,6 @@
 -- `script::step` meets its contract: a call that changes the words, or one that reads them. Assumes nothing.
 use borrow.Author.Tests.{lt-ltb, le-ltb}
-use Rattle.script.proofs.Laws.{kept-did, runs-as}
+use Rattle.script.proofs.Laws.{kept-shows, shows-as}
 use borrow.Author.Needs.{needs}
 use Rattle.script.proofs.step.Statement.{statement}
 use Rattle.script.proofs.step.Tie as tie
@@ -8,12 +8,12 @@ use Rattle.script.proofs.step.Tie as tie
 returns : tie.Need-returns
 returns c =
     let k = c .before .before .before .before .before in
-    kept-did _ _ _ _ _ _ (k .changed .result) _ _ _ _ (simp (lt-ltb _ _ (k .before .before .before .if1 .taken))) (c .kept-as .ensures) (k .changed .ensures)
+    kept-shows _ _ _ _ _ _ (k .changed .result) _ _ _ _ (simp (lt-ltb _ _ (k .before .before .before .if1 .taken))) (c .kept-as .ensures) (k .changed .ensures)
 
 returns-2 : tie.Need-returns-2
 returns-2 c =
     let k = c .before .before .before .before .before .before in
-    runs-as _ _ _ _ _ (simp (le-ltb _ _ (k .before .before .before .before .before .before .if1 .left))) (k .read .ensures)
+    shows-as _ _ _ _ _ (simp (le-ltb _ _ (k .before .before .before .before .before .before .if1 .left))) (k .read .ensures)
 
 pub step-spec : {M : Type 1} → statement M
 step-spec =
