@@ -15,7 +15,7 @@ use Rattle.fit.specs.declared.Fit.{Fit}
 use Rattle.question.specs.Reports.{reportOf}
 use Rattle.driver.specs.declared.Reply.{Reply}
 use Rattle.driver.specs.declared.Reply.the-variants as R
-use Rattle.lbfgsb.specs.Words.{Words, lengths, Holds, replied}
+use Rattle.lbfgsb.specs.Words.{Words, lengths, Holds, replied, firstOf}
 use Rattle.lbfgsb.specs.Did.{Stepped}
 use Rattle.lbfgsb.specs.Chain.{Chain, Allowed, After, Demand}
 use Rattle.lbfgsb.specs.declared.Answer.{Answer}
@@ -139,8 +139,8 @@ shown S.Unasked n point found bytes = some (H.Answer.asked none)
 shown (S.Asked k) n point found bytes = some (H.Answer.asked (some (record { kind = k; point = take n point })))
 shown (S.Reported o) n point found bytes = some (H.Answer.reported (reportOf o (take n point)))
 shown (S.Counted k) n point found bytes = some (H.Answer.counted k)
-shown (S.Entered k) n point found bytes = some (H.Answer.entered (take k found))
-shown (S.Saved k) n point found bytes = some (H.Answer.saved (take k bytes))
+shown (S.Entered k) n point found bytes = some (H.Answer.entered (firstOf k found))
+shown (S.Saved k) n point found bytes = some (H.Answer.saved (firstOf k bytes))
 
 -- the last of a list of answers, after o
 abbrev pub lastOf : Option H.Answer → List H.Answer → Option H.Answer
