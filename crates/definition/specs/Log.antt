@@ -5,7 +5,7 @@ use mathlib.Core.List.{List, [], _∷_, _++_}
 use mathlib.Core.Option.{Option, none, some}
 use lib.Dec.{eqb, ltb}
 use lib.ListN.{length, take, drop}
-use Rattle.definition.specs.Problem.{Setup, Check, dimension}
+use Rattle.definition.specs.Problem.{Setup, Check}
 use Rattle.definition.specs.Machine.{Reply, Machine, checkDue}
 use Rattle.definition.specs.Driver.{answer, begin}
 
@@ -76,3 +76,29 @@ readEntries (suc left) room (Entries.going ws rs m) = readEntries left room (nex
 
 abbrev pub entriesOf : Setup → ℕ → List ℕ → Entries
 entriesOf s room ws = readEntries (length ws + 1) room (Entries.going ws [] (begin s))
+
+-- ---- the first entries of a log, one by one
+
+abbrev pub oneMore : ℕ → Entries → Entries
+oneMore room (Entries.kept rs) = Entries.kept rs
+oneMore room (Entries.refusedAt c) = Entries.refusedAt c
+oneMore room (Entries.going ws rs m) = nextEntry room ws rs m
+
+-- the reading above, after k entries
+unfoldable pub afterEntries : ℕ → ℕ → Entries → Entries
+afterEntries zero room e = e
+afterEntries (suc k) room e = oneMore room (afterEntries k room e)
+
+abbrev pub firstEntries : Setup → List ℕ → Entries
+firstEntries s ws = Entries.going ws [] (begin s)
+
+-- Document 01 at take back: "per entry kept, in altered logs only: 17 unknown, cut or not due".
+-- The replies of the entries read, if all of them could be: an entry that the words end before is cut.
+abbrev pub stayed : Entries → Option (List Reply)
+stayed (Entries.kept rs) = none
+stayed (Entries.refusedAt c) = none
+stayed (Entries.going ws rs m) = some rs
+
+-- the replies of the first `count` entries of ws, the words of a log of `room` words; none where one of them is unknown, cut or not due
+abbrev pub entriesKept : Setup → ℕ → ℕ → List ℕ → Option (List Reply)
+entriesKept s room count ws = stayed (afterEntries count room (firstEntries s ws))

@@ -20,10 +20,10 @@ fn model(area: &mut [f64], h: Shape, theta: f64) -> bool
 {
     compact::lay_columns(area, h, theta);
     let block = compact::block(area, h, theta);
-    let mut rows = block;
     let mut multipliers = compact::zero_rows();
     let mut order = [0usize; 32];
-    let found = solve::factor(2 * h.pairs, &mut rows, &mut multipliers, &mut order);
+    let mut found = false;
+    let rows = solve::factor(2 * h.pairs, block, &mut multipliers, &mut order, &mut found);
     if !cauchy::generalized_cauchy(area, h, theta, found, &rows, &multipliers, &order) {
         return false;
     }

@@ -356,10 +356,11 @@ fn multiplied(area: &mut [f64], h: compact::Shape, theta: f64) -> bool
     requires { ⌜ Sound h (length (now area)) ⌝ }
 {
     compact::lay_columns(area, h, theta);
-    let mut rows = compact::block(area, h, theta);
+    let b = compact::block(area, h, theta);
     let mut multipliers = compact::zero_rows();
     let mut order = [0usize; 32];
-    let found = solve::factor(2 * h.pairs, &mut rows, &mut multipliers, &mut order);
+    let mut found = false;
+    let rows = solve::factor(2 * h.pairs, b, &mut multipliers, &mut order, &mut found);
     compact::product(
         area,
         h,
@@ -491,10 +492,10 @@ fn is_geometry(area: &mut [f64], h: compact::Shape, theta: f64, s: &[u8], at: us
 {
     compact::lay_columns(area, h, theta);
     let b = compact::block(area, h, theta);
-    let mut rows = b;
     let mut multipliers = compact::zero_rows();
     let mut order = [0usize; 32];
-    let found = solve::factor(2 * h.pairs, &mut rows, &mut multipliers, &mut order);
+    let mut found = false;
+    let rows = solve::factor(2 * h.pairs, b, &mut multipliers, &mut order, &mut found);
     if cauchy::generalized_cauchy(area, h, theta, found, &rows, &multipliers, &order) {
         return from_cauchy(
             area,

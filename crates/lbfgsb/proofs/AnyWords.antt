@@ -16,8 +16,8 @@ use Rattle.definition.specs.History.{Call, Answer, refusalsOf, entryRefusals, a
 use Rattle.definition.proofs.Tests.{by-test}
 use Rattle.definition.proofs.Numbered.{Numbered, AnswerNumbered, ReadNumbered, tested, both, opening, due, short, record-numbered, restores}
 use Rattle.driver.specs.Replies.{isHeld}
-use Rattle.lbfgsb.specs.Words.{Words, lengths, machineIn}
-use Rattle.lbfgsb.specs.Did.{Zeroed, Started, Restored, Restores, Replied, TakenBack, TakesBack, refusedBy, checkAt, checkBack, questionOf, questionAnswer, reportAnswer, repliesAnswer, entryKept, shortLog, entryAnswer, recordIn, saveAnswer}
+use Rattle.lbfgsb.specs.Words.{Words, lengths, setupOf, machineIn}
+use Rattle.lbfgsb.specs.Did.{Zeroed, Started, Restored, Restores, Replied, TakenBack, TakesReplies, TakesHeld, TakesBack, repliesLeft, refusedBy, checkAt, checkBack, questionOf, questionAnswer, reportAnswer, repliesAnswer, entryKept, shortLog, entryAnswer, recordIn, saveAnswer}
 use Rattle.lbfgsb.specs.Chain.{Chain, Answered}
 use Rattle.lbfgsb.proofs.Trace.{Called, by-start, by-restore, by-reply, by-take-back, by-question, by-report, by-replies, by-entry, by-save, did}
 
@@ -105,24 +105,47 @@ back-checks w j =
     (λ _. both (when (ltb (w .state .entries) j) (refuse 16 0 0)) (shortLog w) (tested (ltb (w .state .entries) j) 16 0 0 refl) (cut w refl))
     (λ _. tested (ltb 0 j) 16 0 0 refl)
 
+-- past its checks it is done, or refused at an entry
+back-ends : {j : ℕ} {w w' : Words} {o : Answer} → TakesBack j none w w' o → (o ≡ Answer.done) ⊎ ((o ≡ Answer.refused (plainRefusal 17)) × Zeroed w w')
+back-ends {j} {w} {w'} {o} t = passed (isHeld (w .state) (w .area)) t
+  where
+    stays : (q : Option (List Reply)) → TakesReplies q w w' o → (o ≡ Answer.done) ⊎ ((o ≡ Answer.refused (plainRefusal 17)) × Zeroed w w')
+    stays (some rs) t = inl (t .said)
+    stays none t = inr (t .said, t .zeroed)
+
+    held : (c : Check) → TakesHeld j c w w' o → (o ≡ Answer.done) ⊎ ((o ≡ Answer.refused (plainRefusal 17)) × Zeroed w w')
+    held none t = stays (repliesLeft j w) t
+    held (some c) (inl t) = inl (t .said)
+    held (some c) (inr t) = inr (t .said, t .zeroed)
+
+    passed : (b : Bool) → cond b (TakesHeld j (validate (setupOf w)) w w' o) ((o ≡ Answer.done) × (w' ≡ w)) → (o ≡ Answer.done) ⊎ ((o ≡ Answer.refused (plainRefusal 17)) × Zeroed w w')
+    passed true t = held (validate (setupOf w)) t
+    passed false t = inl (t .0)
+
 back-numbered : {j : ℕ} {w w' : Words} {o : Answer} → TakenBack j w w' o → AnswerNumbered (refusalsOf (Call.takeBack j)) o
 back-numbered {j} {w} {w'} {o} l = go (checkBack w j) (back-checks w j) (l .back)
   where
     N : Answer → Type 0
     N = AnswerNumbered (refusalsOf (Call.takeBack j))
 
+    ends : (o ≡ Answer.done) ⊎ ((o ≡ Answer.refused (plainRefusal 17)) × Zeroed w w') → N o
+    ends (inl e) = subst N (sym e) tt
+    ends (inr e) = subst N (sym (e .0)) refl
+
     go : (c : Check) → Numbered (refusalsOf (Call.takeBack j)) c → TakesBack j c w w' o → N o
     go (some r) (Numbered.refuses n) t = subst N (sym (t .0)) n
-    go none n (inl t) = subst N (sym (t .0)) tt
-    go none n (inr t) = subst N (sym (t .0)) refl
+    go none n t = ends (back-ends t)
 
 back-left : {j : ℕ} {w w' : Words} {o : Answer} → TakenBack j w w' o → (r : Refusal) → o ≡ Answer.refused r → Left (Call.takeBack j) r w w'
 back-left {j} {w} {w'} {o} l r q = go (checkBack w j) (l .back)
   where
+    ends : (o ≡ Answer.done) ⊎ ((o ≡ Answer.refused (plainRefusal 17)) × Zeroed w w') → Left (Call.takeBack j) r w w'
+    ends (inl e) = let d = sym q ∙ e in cc
+    ends (inr e) = at-entry (sym q ∙ e .0) refl (e .1)
+
     go : (c : Check) → TakesBack j c w w' o → Left (Call.takeBack j) r w w'
     go (some b) t = inl (t .1)
-    go none (inl t) = let e = sym q ∙ t .0 in cc
-    go none (inr t) = at-entry (sym q ∙ t .0) refl (t .1 .zeroed)
+    go none t = ends (back-ends t)
 
 restore-left : {bs : List ℕ} {w w' : Words} {o : Answer} → Restored bs w w' o → (r : Refusal) → o ≡ Answer.refused r → Left (Call.restore bs) r w w'
 restore-left {bs} {w} {w'} l r q = go (readRecord (lengths w) bs) (record-numbered (lengths w) bs) (l .restores) (sym q ∙ l .always)

@@ -3,37 +3,35 @@ use Prim.Native.Nat.{ℕ, _+_, _-_, _≤_, _<_}
 use native.Mathlib.Omega.{arith}
 use mathlib.Core.Path.{_≡_, refl, sym, ap, ap₂, _∙_, subst}
 use mathlib.Core.Bool.{Bool, true, false, false≢true}
-use mathlib.Core.Logic.{inl, inr, ⊎-elim}
+use mathlib.Core.Logic.{inl, inr}
 use mathlib.Core.List.{List, _++_, append-assoc}
-use mathlib.Core.Option.{none, some}
+use mathlib.Core.Option.{Option, none, some}
 use lib.Dec.{ltb}
 use lib.ListN.{length, take, drop, replicate, length-append, length-drop, length-replicate}
 use lib.Seq.{take-at, take-take, length-take-le}
 use lib.Ieee.{Float}
 use borrow.Author.Tests.{lt-ltb, le-ltb}
 use Rattle.definition.specs.Number.{zero64}
-use Rattle.definition.specs.Problem.{Setup, Refusal, Check, refuse, when, _then_, areaNeeded}
+use Rattle.definition.specs.Problem.{Setup, Refusal, Check, refuse, when, _then_, validate}
 use Rattle.definition.specs.Machine as M
-use Rattle.definition.specs.Driver.{run}
-use Rattle.definition.specs.Log.{logWords}
+use Rattle.definition.specs.Log.{logWords, entriesKept}
 use Rattle.definition.specs.Record.{plainRefusal}
 use Rattle.definition.specs.Replies.{Accepted}
 use Rattle.definition.specs.History as H
-use Rattle.definition.specs.History.{Call, History, refusal, left, leftUnless, answerUnless, historyStep, historyAnswer}
-use Rattle.definition.proofs.Histories.{due-struck}
+use Rattle.definition.specs.History.{Call, History, refusal, left, leftUnless, answerUnless}
 use Rattle.problem.specs.Setups.{refusalOf}
 use Rattle.problem.specs.declared.Refusal as Q
 use Rattle.fit.specs.declared.Fit.{Fit}
 use Rattle.driver.specs.Replies.{isHeld}
-use Rattle.replay.specs.Replays.{ReplayedTo, RefusedAt}
+use Rattle.replay.specs.Replays.{ReplayedTo}
 use Rattle.replay.specs.declared.Replayed.{Replayed}
 use Rattle.replay.specs.declared.Replayed.the-variants as R
 use Rattle.lbfgsb.specs.declared.Answer.{Answer}
 use Rattle.lbfgsb.specs.Words.{Words, words, lengths, setupOf, logIn, Held, Holds, next, nextBy, kept, keptBy}
-use Rattle.lbfgsb.specs.Did.{checkBack, Spoiled, TakesBack, TakenBack}
-use Rattle.rebuild.specs.Built.{struckOut, Built, Unbuilt, Builds, Shortens}
-use Rattle.held.proofs.Laws.{reached-held, held-reached}
-use Rattle.rebuild.proofs.Reread.{log-front, behind, log-unrefused, log-replayed}
+use Rattle.lbfgsb.specs.Did.{checkBack, repliesLeft, Shortened, Spoiled, Taken, TakesReplies, TakesHeld, TakesBack, TakenBack}
+use Rattle.rebuild.specs.Built.{struckOut, Built, Cut, Stays, Shortens}
+use Rattle.held.proofs.Laws.{reached-held}
+use Rattle.rebuild.proofs.Reread.{log-kept, all-kept}
 
 -- ---- the check is the history's
 
@@ -89,7 +87,7 @@ unheld-kept w j h e =
         holds = λ g k. subst (λ (o : Check). Holds w (leftUnless o g (Call.takeBack j))) (sym (check-same w j g k ∙ passed)) (stays g k);
         said = λ g k. ap (λ (o : Check). answerUnless o g (Call.takeBack j)) (sym (check-same w j g k ∙ passed));
       };
-      back = subst (λ (o : Check). TakesBack j o w w H.Answer.done) (sym passed) (inl (refl, rw h));
+      back = subst (λ (o : Check). TakesBack j o w w H.Answer.done) (sym passed) (rw h (refl, refl));
     }
   where
     stays : (g : History) → Holds w g → Holds w (left g (Call.takeBack j))
@@ -123,106 +121,112 @@ module _ (t : Fit) (a : List Float) (l : List ℕ) (j : ℕ) (test : isHeld t a 
       check-held was j test
       ∙ ap₂ (λ (p q : Bool). when p (refuse 16 0 0) then when q (refuse 12 0 0)) (le-ltb (t .entries) j few) (le-ltb (length l) (t .words) room)
 
-  -- a history that the words hold is a fit
-  fits : (P : History → Type 0) → ((s : Setup) (rs : List M.Reply) → Held was s rs → P (History.fit s rs)) → (g : History) → Holds was g → P g
-  fits P h History.empty k = absurd (false≢true (sym k ∙ test))
-  fits P h (History.fit s rs) k = h s rs k
+  -- the replies of a history that the words hold, the last j struck
+  history-left : (s : Setup) (rs : List M.Reply) → Held was s rs → repliesLeft j was ≡ some (drop j rs)
+  history-left s rs k =
+      ap (λ (x : Setup). entriesKept x (length l) (t .entries - j) (logIn was)) (k .setup)
+      ∙ ap₂ (λ (i : ℕ) (ws : List ℕ). entriesKept s (length l) (i - j) ws) (k .entries) (k .log)
+      ∙ log-kept s (length l) rs (k .due) (omega (arith, k .words)) j (omega (arith, k .entries))
 
-  module _ (f : Fit) (b : List Float) (h : Built (setupOf was) (logIn was) (t .entries - j) (length l) (length a) f b) where
+  -- the part for any words gives the part for a history
+  module _ (w : Words) (o : H.Answer) (sized : lengths w ≡ lengths was) (h : TakesHeld j (validate (setupOf was)) was w o) where
+    taken-history : (s : Setup) (rs : List M.Reply) → Held was s rs → Taken (drop j rs) was w o
+    taken-history s rs k =
+        subst (λ (q : Option (List M.Reply)). TakesReplies q was w o) (history-left s rs k)
+        (subst (λ (c : Check). TakesHeld j c was w o) (ap validate (k .setup) ∙ k .accepted) h)
+
+    holds-left : (g : History) → Holds was g → Holds w (left g (Call.takeBack j))
+    holds-left History.empty k = absurd (false≢true (sym k ∙ test))
+    holds-left (History.fit s rs) k = subst (λ (x : Setup). Held w x (drop j rs)) (k .setup) (taken-history s rs k .held)
+
+    says-done : (g : History) → Holds was g → o ≡ H.Answer.done
+    says-done History.empty k = absurd (false≢true (sym k ∙ test))
+    says-done (History.fit s rs) k = taken-history s rs k .said
+
+    held-back : TakenBack j was w o
+    held-back = record {
+      did = record {
+        sized = sized;
+        holds = λ g k. subst (λ (c : Check). Holds w (leftUnless c g (Call.takeBack j))) (sym (check-same was j g k ∙ passed)) (holds-left g k);
+        said = λ g k. says-done g k ∙ ap (λ (c : Check). answerUnless c g (Call.takeBack j)) (sym (check-same was j g k ∙ passed));
+      };
+      back = subst (λ (c : Check). TakesBack j c was w o) (sym passed) (rw test h);
+    }
+
+  -- the entries that are to stay are there
+  module _ (f : Fit) (b : List Float) (h : Built (setupOf was) (logIn was) (t .entries - j) (length l) (length a) f b) (all : f .entries ≡ t .entries - j) where
     fewer-words : f .words ≤ t .words
     fewer-words = omega (arith, h .words, length-take-le (t .words) l room)
 
     abbrev now-log : List ℕ
     now-log = struckOut (f .words) (t .words) l
 
-    -- the replies that are left, of a history
-    module _ (s : Setup) (rs : List M.Reply) (k : Held was s rs) where
-      replayed : ReplayedTo s (logWords rs) (length l) f b
-      replayed =
-          subst (λ (ws : List ℕ). ReplayedTo s ws (length l) f b) (k .log)
-          (subst (λ (x : Setup). ReplayedTo x (logIn was) (length l) f b) (k .setup) (h .is (subst Accepted (sym (k .setup)) (k .accepted))))
+    now-long : length now-log ≡ length l
+    now-long = struck-long (f .words) (t .words) l fewer-words room
 
-      replies-left : replayed .replies ≡ drop j rs
-      replies-left =
-          log-replayed s (length l) rs (k .due) (omega (arith, k .words)) j (omega (arith, k .entries)) replayed (omega (arith, h .few, k .entries))
-          (⊎-elim (λ e. inl (e ∙ ap length (k .log))) (λ e. inr (e ∙ ap (λ (i : ℕ). i - j) (k .entries))) (h .stopped))
+    shortened : Shortened was (words f b now-log)
+    shortened = record { words = fewer-words; log = refl }
 
-      words-left : f .words ≡ length (logWords (drop j rs))
-      words-left = replayed .words ∙ ap (λ (qs : List M.Reply). length (logWords qs)) replies-left
+    -- the log's front spells the replies
+    log-left : (r : ReplayedTo (setupOf was) (logIn was) (length l) f b) → take (f .words) now-log ≡ logWords (r .replies)
+    log-left r =
+        struck-front (f .words) (t .words) l fewer-words room
+        ∙ sym (take-take (f .words) (t .words) l fewer-words)
+        ∙ ap (take (f .words)) (sym (r .spelled))
+        ∙ take-at (logWords (r .replies)) (drop (f .words) (logIn was)) (f .words) (sym (r .words))
 
-      log-left : take (f .words) now-log ≡ logWords (drop j rs)
-      log-left =
-          struck-front (f .words) (t .words) l fewer-words room
-          ∙ sym (take-take (f .words) (t .words) l fewer-words)
-          ∙ ap (take (f .words)) (k .log ∙ sym (log-front j rs))
-          ∙ take-at (logWords (drop j rs)) (behind j rs) (f .words) (sym words-left)
+    taken-held : (e : Accepted (setupOf was)) → Held (words f b now-log) (setupOf was) (h .is e .replies)
+    taken-held e =
+        let r = h .is e in
+        reached-held
+        (record {
+          accepted = e;
+          due = r .due;
+          setup = h .setup;
+          is = r .is;
+          sound = h .sound;
+          area = h .area;
+          settled = h .settled;
+          entries = r .entries;
+          words = r .words;
+        })
+        (h .mark) (omega (arith, fewer-words, now-long)) (log-left r)
 
-      left-held : Held (words f b now-log) s (drop j rs)
-      left-held =
-          reached-held
-          (record {
-            accepted = k .accepted;
-            due = due-struck s j rs (k .due);
-            setup = h .setup ∙ k .setup;
-            is = replayed .is ∙ ap (run s) replies-left;
-            sound = h .sound;
-            area = subst (λ (i : ℕ). areaNeeded s ≤ i) (sym (h .long)) (held-reached k .area);
-            settled = h .settled;
-            entries = replayed .entries ∙ ap length replies-left;
-            words = words-left;
-          })
-          (h .mark) (omega (arith, fewer-words, struck-long (f .words) (t .words) l fewer-words room)) log-left
+    taken-by : (c : Check) → validate (setupOf was) ≡ c → TakesHeld j c was (words f b now-log) H.Answer.done
+    taken-by none e =
+        subst (λ (q : Option (List M.Reply)). TakesReplies q was (words f b now-log) H.Answer.done) (sym (all-kept (t .entries - j) (h .is e) all))
+        (record { said = refl; held = taken-held e; log = shortened })
+    taken-by (some c) e = inl (record { said = refl; setup = h .setup; entries = all; mark = h .mark; log = shortened })
 
     taken-back : TakenBack j was (words f b now-log) H.Answer.done
-    taken-back = record {
-      did = record {
-        sized = ap₂ (λ (x y : ℕ). record { area = x; log = y }) (h .long) (struck-long (f .words) (t .words) l fewer-words room);
-        holds = fits (λ g. Holds (words f b now-log) (historyStep (lengths was) g (Call.takeBack j))) (λ s rs k.
-            subst (λ (o : Check). Holds (words f b now-log) (leftUnless o (History.fit s rs) (Call.takeBack j))) (sym (check-same was j (History.fit s rs) k ∙ passed)) (left-held s rs k));
-        said = λ g k. ap (λ (o : Check). answerUnless o g (Call.takeBack j)) (sym (check-same was j g k ∙ passed));
-      };
-      back =
-          subst (λ (o : Check). TakesBack j o was (words f b now-log) H.Answer.done) (sym passed)
-          (inl (refl, rw test (record { setup = h .setup; words = fewer-words; log = refl; stopped = h .stopped; is = h .is })));
-    }
+    taken-back = held-back (words f b now-log) H.Answer.done (ap₂ (λ (x y : ℕ). record { area = x; log = y }) (h .long) now-long) (taken-by (validate (setupOf was)) refl)
 
-  module _ (number : ℕ) (b : List Float) (h : Unbuilt (setupOf was) (logIn was) (t .entries - j) (length l) (length a) number b) where
-    -- no history is refused
-    unrefused : (s : Setup) (rs : List M.Reply) → Held was s rs → ⊥
-    unrefused s rs k =
-        log-unrefused s (length l) rs (k .due) (omega (arith, k .words)) (t .entries - j) number (omega (arith, k .entries))
-        (subst (λ (ws : List ℕ). RefusedAt s ws (t .entries - j) (length l) number) (k .log)
-        (subst (λ (x : Setup). RefusedAt x (logIn was) (t .entries - j) (length l) number) (k .setup) (h .is (subst Accepted (sym (k .setup)) (k .accepted)))))
-
-    -- there is room for as many words
-    always-17 : number ≡ 17
-    always-17 = ⊎-elim (λ e. e) (λ e. absurd (omega (arith, e .1, length-take-le (t .words) l room))) (h .which)
-
-    spoiled : Spoiled j was (words t b l)
+  -- one of them is refused
+  module _ (number : ℕ) (b : List Float) (h : Cut (setupOf was) (logIn was) (t .entries - j) (length l) (length a) number b) where
+    spoiled : Spoiled was (words t b l) (H.Answer.refused (plainRefusal number))
     spoiled = record {
+      said = ap (λ (i : ℕ). H.Answer.refused (plainRefusal i)) (h .which);
       zeroed = record { state = refl; area = h .area; log = refl };
-      is = λ k. subst (λ (i : ℕ). RefusedAt (setupOf was) (logIn was) (t .entries - j) (length l) i) always-17 (h .is k);
     }
+
+    spoiled-by : (c : Check) → validate (setupOf was) ≡ c → TakesHeld j c was (words t b l) (H.Answer.refused (plainRefusal number))
+    spoiled-by none e =
+        subst (λ (q : Option (List M.Reply)). TakesReplies q was (words t b l) (H.Answer.refused (plainRefusal number))) (sym (h .is e)) spoiled
+    spoiled-by (some c) e = inr spoiled
 
     back-zeroed : TakenBack j was (words t b l) (H.Answer.refused (plainRefusal number))
-    back-zeroed = record {
-      did = record {
-        sized = ap (λ (x : ℕ). record { area = x; log = length l }) (ap length (h .area) ∙ length-replicate (length a) zero64);
-        holds = fits (λ g. Holds (words t b l) (historyStep (lengths was) g (Call.takeBack j))) (λ s rs k. absurd (unrefused s rs k));
-        said = fits (λ g. H.Answer.refused (plainRefusal number) ≡ historyAnswer (lengths was) g (Call.takeBack j)) (λ s rs k. absurd (unrefused s rs k));
-      };
-      back =
-          subst (λ (o : Check). TakesBack j o was (words t b l) (H.Answer.refused (plainRefusal number))) (sym passed)
-          (inr (ap (λ (i : ℕ). H.Answer.refused (plainRefusal i)) always-17, spoiled));
-    }
+    back-zeroed =
+        held-back (words t b l) (H.Answer.refused (plainRefusal number))
+        (ap (λ (x : ℕ). record { area = x; log = length l }) (ap length (h .area) ∙ length-replicate (length a) zero64))
+        (spoiled-by (validate (setupOf was)) refl)
 
   -- ---- by what is built
 
-  built-back : (q : Replayed) (b : List Float) (m : List ℕ) → Builds (setupOf was) (logIn was) (t .entries - j) (length l) (length a) q b → Shortens q (t .words) l m
+  built-back : (q : Replayed) (b : List Float) (m : List ℕ) → Stays (setupOf was) (logIn was) (t .entries - j) (length l) (length a) q b → Shortens q (t .words) l m
       → TakenBack j was (words (nextBy t q) b m) (keptBy q)
-  built-back (R.Done f) b m h z = subst (λ (k : List ℕ). TakenBack j was (words f b k) H.Answer.done) (sym z) (taken-back f b h)
+  built-back (R.Done f) b m h z = subst (λ (k : List ℕ). TakenBack j was (words f b k) H.Answer.done) (sym z) (taken-back f b (h .0) (h .1))
   built-back (R.Refused i) b m h z = subst (λ (k : List ℕ). TakenBack j was (words t b k) (H.Answer.refused (plainRefusal i))) (sym z) (back-zeroed i b h)
 
   pub answered-back : (q : Replayed) (o : Answer) (b : List Float) (m : List ℕ) → ((t : Fit) → next t o ≡ nextBy t q) × (kept o ≡ keptBy q)
-      → Builds (setupOf was) (logIn was) (t .entries - j) (length l) (length a) q b × Shortens q (t .words) l m → TakenBack j was (words (next t o) b m) (kept o)
+      → Stays (setupOf was) (logIn was) (t .entries - j) (length l) (length a) q b × Shortens q (t .words) l m → TakenBack j was (words (next t o) b m) (kept o)
   answered-back q o b m e h = rw (e .0 t, e .1) (built-back q b m (h .0) (h .1))

@@ -4,24 +4,23 @@ use mathlib.Core.Path.{_≡_, refl, sym, ap, _∙_, subst}
 use mathlib.Core.Bool.{Bool, true, false, false≢true, true≢false, cond}
 use mathlib.Core.Logic.{_⊎_, inl, inr}
 use mathlib.Core.List.{List, _++_}
-use mathlib.Core.Option.{none, some}
+use mathlib.Core.Option.{Option, none, some}
 use native.Mathlib.Omega.{arith}
 use lib.Dec.{ltb}
 use lib.ListN.{length, take, drop, replicate, length-replicate, length-append}
 use lib.Seq.{length-take-le, take-append-seam, drop-append-seam, drop-append-le}
-use Rattle.definition.specs.Problem.{Refusal, Check, refuse, when, _then_}
+use Rattle.definition.specs.Problem.{Refusal, Check, refuse, when, _then_, validate}
 use Rattle.definition.specs.Machine.{Reply}
 use Rattle.definition.specs.Log.{entryWords, logWords}
 use Rattle.definition.specs.Record.{Lengths, Reading, plainRefusal, readRecord}
 use Rattle.definition.specs.Sound.{atEntry}
 use Rattle.definition.specs.History.{Call, Answer, History, answerUnless, restoredAnswer, historyAnswer, historyAfter}
-use Rattle.driver.specs.Replies.{isHeld}
-use Rattle.lbfgsb.specs.Words.{Words, lengths, Holds}
-use Rattle.lbfgsb.specs.Did.{Zeroed, Restored, Restores, Replied, Moved, Taken, TakesBack, TakenBack, refusedBy, checkAt, checkBack}
+use Rattle.lbfgsb.specs.Words.{Words, lengths, setupOf, Holds}
+use Rattle.lbfgsb.specs.Did.{Zeroed, Restored, Restores, Replied, Moved, Shortened, TakesReplies, TakesHeld, TakesBack, TakenBack, refusedBy, checkAt, checkBack, repliesLeft}
 use Rattle.lbfgsb.specs.Chain.{Chain, Allowed, Leaves, Struck, Past, LogPast}
 use Rattle.lbfgsb.proofs.Trace.{Called, by-start, by-restore, by-reply, by-take-back, by-question, by-report, by-replies, by-entry, by-save, after}
 
--- ---- a refused call
+-- ---- answers
 
 abbrev numberOf : Answer → ℕ
 numberOf (Answer.refused r) = r .number
@@ -57,35 +56,6 @@ no-17 z (History.fit s rs) j e = go (ltb (length rs) j) (ltb (z .log) (length (l
     go true u q = omega (arith, q)
     go false true q = omega (arith, q)
     go false false q = omega (arith, q)
-
-back-refused : {j : ℕ} {w w' : Words} {o : Answer} → TakenBack j w w' o → (h : History) → Holds w h → (r : Refusal) → o ≡ Answer.refused r → w' ≡ w
-back-refused {j} {w} {w'} {o} l h k r q = go (checkBack w j) (l .back)
-  where
-    go : (c : Check) → TakesBack j c w w' o → w' ≡ w
-    go (some b) t = t .1
-    go none (inl t) = absurd (not-both (t .0) q)
-    go none (inr t) = absurd (no-17 (lengths w) h j (sym (l .did .said h k) ∙ t .0))
-
-restore-refused : {bs : List ℕ} {w w' : Words} {o : Answer} → Restored bs w w' o → (r : Refusal) → o ≡ Answer.refused r → Leaves (Call.restore bs) w w'
-restore-refused {bs} {w} {w'} {o} l r q =
-    let p = go (readRecord (lengths w) bs) (l .always) (l .restores) in
-    record { kept = p .0; zeroed = p .1 }
-  where
-    go : (d : Reading) → o ≡ restoredAnswer d → Restores d w w' → (atEntry d ≡ false → w' ≡ w) × (atEntry d ≡ true → Zeroed w w')
-    go (Reading.accepted s rs) e x = absurd (not-both e q)
-    go (Reading.refused c) e x = ((λ f. x), (λ f. absurd (false≢true f)))
-    go (Reading.refusedAtEntry c) e x = ((λ f. absurd (true≢false f)), (λ f. x))
-
-leaves : {c : Call} {w w' : Words} {o : Answer} → Called c w w' o → (h : History) → Holds w h → (r : Refusal) → o ≡ Answer.refused r → Leaves c w w'
-leaves (by-start κs a z e log l) h k r q = record { kept = λ f. l log .refuses r q; zeroed = λ f. absurd (false≢true f) }
-leaves (by-restore κs a z e l) h k r q = restore-refused l r q
-leaves (by-reply κs a z e l) h k r q = record { kept = λ f. l .refuses r q; zeroed = λ f. absurd (false≢true f) }
-leaves (by-take-back κs a z e l) h k r q = record { kept = λ f. back-refused l h k r q; zeroed = λ f. absurd (false≢true f) }
-leaves (by-question κs a z e log l) h k r q = record { kept = λ f. refl; zeroed = λ f. absurd (false≢true f) }
-leaves (by-report κs a z e log l) h k r q = record { kept = λ f. refl; zeroed = λ f. absurd (false≢true f) }
-leaves (by-replies κs a z e log l) h k r q = record { kept = λ f. refl; zeroed = λ f. absurd (false≢true f) }
-leaves (by-entry κs a z e l) h k r q = record { kept = λ f. refl; zeroed = λ f. absurd (false≢true f) }
-leaves (by-save κs a z e l) h k r q = record { kept = λ f. refl; zeroed = λ f. absurd (false≢true f) }
 
 -- ---- the log past its last entry
 
@@ -130,7 +100,7 @@ struck-none {w} e = subst (Struck w) (sym e) (record { fewer = omega arith; zero
     none : w .state .words - w .state .words ≡ 0
     none = omega arith
 
-struck : {j : ℕ} {w w' : Words} → Taken j w w' → w .state .words ≤ length (w .log) → Struck w w'
+struck : {w w' : Words} → Shortened w w' → w .state .words ≤ length (w .log) → Struck w w'
 struck {w} {w'} t l =
     let k = w' .state .words in
     let n = w .state .words in
@@ -146,17 +116,27 @@ struck {w} {w'} t l =
       past = ap (drop n) (t .log) ∙ past-entry front zeros back k n sized (omega (arith, fewer, many));
     }
 
+-- in a history a taking back that passes its checks is done
+back-done : (j : ℕ) (w w' : Words) (o : Answer) (h : History) → Holds w h → o ≡ historyAnswer (lengths w) h (Call.takeBack j) → TakesBack j none w w' o
+    → (o ≡ Answer.done) × Struck w w'
+back-done j w w' o History.empty k e t =
+    let s = subst (λ (b : Bool). cond b (TakesHeld j (validate (setupOf w)) w w' o) ((o ≡ Answer.done) × (w' ≡ w))) k t in
+    (s .0, struck-none (s .1))
+back-done j w w' o (History.fit s rs) k e t =
+    go (repliesLeft j w)
+    (subst (λ (c : Check). TakesHeld j c w w' o) (ap validate (k .setup) ∙ k .accepted)
+    (subst (λ (b : Bool). cond b (TakesHeld j (validate (setupOf w)) w w' o) ((o ≡ Answer.done) × (w' ≡ w))) (k .test) t))
+  where
+    go : (q : Option (List Reply)) → TakesReplies q w w' o → (o ≡ Answer.done) × Struck w w'
+    go (some qs) x = (x .said, struck (x .log) (k .room))
+    go none x = absurd (no-17 (lengths w) (History.fit s rs) j (sym e ∙ x .said))
+
 back-past : {j : ℕ} {w w' : Words} {o : Answer} → TakenBack j w w' o → (h : History) → Holds w h → Struck w w'
 back-past {j} {w} {w'} {o} l h k = go (checkBack w j) (l .back)
   where
-    taken : (g : History) → Holds w g → cond (isHeld (w .state) (w .area)) (Taken j w w') (w' ≡ w) → Struck w w'
-    taken History.empty m t = struck-none (subst (λ (b : Bool). cond b (Taken j w w') (w' ≡ w)) m t)
-    taken (History.fit s rs) m t = struck (subst (λ (b : Bool). cond b (Taken j w w') (w' ≡ w)) (m .test) t) (m .room)
-
     go : (c : Check) → TakesBack j c w w' o → Struck w w'
     go (some b) t = struck-none (t .1)
-    go none (inl t) = taken h k (t .1)
-    go none (inr t) = absurd (no-17 (lengths w) h j (sym (l .did .said h k) ∙ t .0))
+    go none t = back-done j w w' o h k (l .did .said h k) t .1
 
 restore-past : {bs : List ℕ} {w w' : Words} {o : Answer} → Restored bs w w' o → Past w w'
 restore-past {w} {w'} l = go (l .past)
@@ -175,6 +155,36 @@ past (by-report κs a z e log l) h k = refl
 past (by-replies κs a z e log l) h k = refl
 past (by-entry κs a z e l) h k = refl
 past (by-save κs a z e l) h k = refl
+
+-- ---- a refused call
+
+back-refused : {j : ℕ} {w w' : Words} {o : Answer} → TakenBack j w w' o → (h : History) → Holds w h → (r : Refusal) → o ≡ Answer.refused r → w' ≡ w
+back-refused {j} {w} {w'} {o} l h k r q = go (checkBack w j) (l .back)
+  where
+    go : (c : Check) → TakesBack j c w w' o → w' ≡ w
+    go (some b) t = t .1
+    go none t = absurd (not-both (back-done j w w' o h k (l .did .said h k) t .0) q)
+
+restore-refused : {bs : List ℕ} {w w' : Words} {o : Answer} → Restored bs w w' o → (r : Refusal) → o ≡ Answer.refused r → Leaves (Call.restore bs) w w'
+restore-refused {bs} {w} {w'} {o} l r q =
+    let p = go (readRecord (lengths w) bs) (l .always) (l .restores) in
+    record { kept = p .0; zeroed = p .1 }
+  where
+    go : (d : Reading) → o ≡ restoredAnswer d → Restores d w w' → (atEntry d ≡ false → w' ≡ w) × (atEntry d ≡ true → Zeroed w w')
+    go (Reading.accepted s rs) e x = absurd (not-both e q)
+    go (Reading.refused c) e x = ((λ f. x), (λ f. absurd (false≢true f)))
+    go (Reading.refusedAtEntry c) e x = ((λ f. absurd (true≢false f)), (λ f. x))
+
+leaves : {c : Call} {w w' : Words} {o : Answer} → Called c w w' o → (h : History) → Holds w h → (r : Refusal) → o ≡ Answer.refused r → Leaves c w w'
+leaves (by-start κs a z e log l) h k r q = record { kept = λ f. l log .refuses r q; zeroed = λ f. absurd (false≢true f) }
+leaves (by-restore κs a z e l) h k r q = restore-refused l r q
+leaves (by-reply κs a z e l) h k r q = record { kept = λ f. l .refuses r q; zeroed = λ f. absurd (false≢true f) }
+leaves (by-take-back κs a z e l) h k r q = record { kept = λ f. back-refused l h k r q; zeroed = λ f. absurd (false≢true f) }
+leaves (by-question κs a z e log l) h k r q = record { kept = λ f. refl; zeroed = λ f. absurd (false≢true f) }
+leaves (by-report κs a z e log l) h k r q = record { kept = λ f. refl; zeroed = λ f. absurd (false≢true f) }
+leaves (by-replies κs a z e log l) h k r q = record { kept = λ f. refl; zeroed = λ f. absurd (false≢true f) }
+leaves (by-entry κs a z e l) h k r q = record { kept = λ f. refl; zeroed = λ f. absurd (false≢true f) }
+leaves (by-save κs a z e l) h k r q = record { kept = λ f. refl; zeroed = λ f. absurd (false≢true f) }
 
 -- ---- the theorems: after every list of calls, for the next one
 

@@ -1,5 +1,5 @@
 -- Laws of restoring a record: refused ahead of its entries, refused at one, or read in whole. Assumes nothing.
-use Prim.Native.Nat.{ℕ, _+_, _-_, _*_, _≤_}
+use Prim.Native.Nat.{ℕ, _+_, _-_, _*_}
 use native.Mathlib.Omega.{arith}
 use mathlib.Core.Path.{_≡_, refl, sym, ap, ap₂, _∙_, subst}
 use mathlib.Core.Logic.{_⊎_, inl, inr, ⊎-elim}
@@ -8,7 +8,6 @@ use lib.ListN.{length, drop, length-append, length-drop, length-replicate}
 use lib.Seq.{take-at, drop-at}
 use lib.Ieee.{Float}
 use Rattle.definition.specs.Number.{zero64}
-use Rattle.definition.specs.Problem.{Setup, areaNeeded}
 use Rattle.definition.specs.Record.{Reading, readRecord, readingOf, plainRefusal, wordsOf}
 use Rattle.definition.specs.History as H
 use Rattle.definition.specs.History.{History, restored, restoredAnswer}
@@ -107,7 +106,7 @@ module _ (bs : List ℕ) (g : Fit) (a : List Float) (l : List ℕ) (o : Options)
           setup = k .setup;
           is = replayed .is;
           sound = k .sound;
-          area = subst (λ (i : ℕ). areaNeeded (setup bs (length a) o f h) ≤ i) (sym (k .long)) (h .room);
+          area = k .area;
           settled = k .settled;
           entries = replayed .entries;
           words = replayed .words;

@@ -1,7 +1,7 @@
 -- What each exported operation does: with any words at all, and with words that hold a history.
 use Prim.Native.Nat.{ℕ, _+_, _-_, _≤_}
 use mathlib.Core.Path.{_≡_}
-use mathlib.Core.Bool.{cond}
+use mathlib.Core.Bool.{true, cond}
 use mathlib.Core.Logic.{_⊎_}
 use mathlib.Core.List.{List, [], _++_}
 use mathlib.Core.Option.{Option, none, some}
@@ -13,13 +13,11 @@ use Rattle.definition.specs.Problem.{Refusal, Check, refuse, when, _then_, vali
 use Rattle.definition.specs.Machine as M
 use Rattle.definition.specs.Machine.{checkDue}
 use Rattle.definition.specs.Driver.{answer}
-use Rattle.definition.specs.Replies.{Accepted}
-use Rattle.definition.specs.Log.{entryWords}
+use Rattle.definition.specs.Log.{entryWords, entriesKept}
 use Rattle.definition.specs.Record.{Reading, checkArea, readRecord, plainRefusal}
 use Rattle.definition.specs.History as H
 use Rattle.definition.specs.History.{Call, History, historyStep, historyAnswer, outputShort, restoredAnswer}
-use Rattle.driver.specs.Replies.{isHeld}
-use Rattle.replay.specs.Replays.{ReplayedTo, RefusedAt}
+use Rattle.driver.specs.Replies.{isHeld, marked}
 use Rattle.lbfgsb.specs.Words.{Words, lengths, setupOf, machineIn, logIn, Held, Holds}
 pub use Rattle.lookup.specs.Reading.{wordsOfEntry, frontEntry, recordIn}
 unfoldable pub use Rattle.lookup.specs.Reading.{entryIn}
@@ -112,32 +110,55 @@ pub record Replied (r : M.Reply) (w w' : Words) (o : H.Answer) : Type 0 where
   pub refuses : Refuses o w w'
   pub moved : o ≡ H.Answer.done → Moved r w w'
 
--- take back: 16 and 12 leave every word; an altered log may be refused at an entry, by 17
+-- take back: 16 and 12 leave every word
 abbrev pub checkBack : Words → ℕ → Check
 checkBack w j =
     cond (isHeld (w .state) (w .area))
     (when (ltb (w .state .entries) j) (refuse 16 0 0) then when (ltb (length (w .log)) (w .state .words)) (refuse 12 0 0))
     (when (ltb 0 j) (refuse 16 0 0))
 
--- the fit is that of the entries left, and the words of the others are zero
-pub record Taken (j : ℕ) (w w' : Words) : Type 0 where
-  pub setup : setupOf w' ≡ setupOf w
+-- the replies that are to stay, as the definition reads them from the log: none where the log was altered and one of them is unknown, cut or not due
+abbrev pub repliesLeft : ℕ → Words → Option (List M.Reply)
+repliesLeft j w = entriesKept (setupOf w) (length (w .log)) (w .state .entries - j) (logIn w)
+
+-- the log's words from the last entry that stays to the old last one are zero, the others as they were
+pub record Shortened (w w' : Words) : Type 0 where
   pub words : w' .state .words ≤ w .state .words
   pub log : w' .log ≡ take (w' .state .words) (w .log) ++ replicate (w .state .words - w' .state .words) 0 ++ drop (w .state .words) (w .log)
-  -- as many entries as are asked for, or all where the log has fewer
-  pub stopped : (w' .state .words ≡ length (logIn w)) ⊎ (w' .state .entries ≡ w .state .entries - j)
-  -- of an accepted setup: the machine and the replies that the definition reads from the log
-  pub is : Accepted (setupOf w) → ReplayedTo (setupOf w) (logIn w) (length (w .log)) (w' .state) (w' .area)
 
--- an entry is refused, of an accepted setup by the definition too, and the area is zero
-pub record Spoiled (j : ℕ) (w w' : Words) : Type 0 where
+-- refused by 17: the area is zero
+pub record Spoiled (w w' : Words) (o : H.Answer) : Type 0 where
+  pub said : o ≡ H.Answer.refused (plainRefusal 17)
   pub zeroed : Zeroed w w'
-  pub is : Accepted (setupOf w) → RefusedAt (setupOf w) (logIn w) (w .state .entries - j) (length (w .log)) 17
 
+-- done: the fit of the setup and the replies that stay is held
+pub record Taken (rs : List M.Reply) (w w' : Words) (o : H.Answer) : Type 0 where
+  pub said : o ≡ H.Answer.done
+  pub held : Held w' (setupOf w) rs
+  pub log : Shortened w w'
+
+-- with an accepted setup: by the replies that are to stay
+abbrev pub TakesReplies : Option (List M.Reply) → Words → Words → H.Answer → Type 0
+TakesReplies (some rs) w w' o = Taken rs w w' o
+TakesReplies none w w' o = Spoiled w w' o
+
+-- done, at a setup that is not accepted: it stays, with as many entries as are to stay and the mark of a fit
+pub record Unchecked (j : ℕ) (w w' : Words) (o : H.Answer) : Type 0 where
+  pub said : o ≡ H.Answer.done
+  pub setup : setupOf w' ≡ setupOf w
+  pub entries : w' .state .entries ≡ w .state .entries - j
+  pub mark : marked (w' .state .shape) (w' .area) ≡ true
+  pub log : Shortened w w'
+
+-- words that pass the test, by their setup: no fit has one that is not accepted, and document 01 fixes no result there
+abbrev pub TakesHeld : ℕ → Check → Words → Words → H.Answer → Type 0
+TakesHeld j none w w' o = TakesReplies (repliesLeft j w) w w' o
+TakesHeld j (some c) w w' o = Unchecked j w w' o ⊎ Spoiled w w' o
+
+-- words that fail it stay as they are
 abbrev pub TakesBack : ℕ → Check → Words → Words → H.Answer → Type 0
 TakesBack j (some r) w w' o = (o ≡ H.Answer.refused r) × (w' ≡ w)
-TakesBack j none w w' o =
-    ((o ≡ H.Answer.done) × cond (isHeld (w .state) (w .area)) (Taken j w w') (w' ≡ w)) ⊎ ((o ≡ H.Answer.refused (plainRefusal 17)) × Spoiled j w w')
+TakesBack j none w w' o = cond (isHeld (w .state) (w .area)) (TakesHeld j (validate (setupOf w)) w w' o) ((o ≡ H.Answer.done) × (w' ≡ w))
 
 pub record TakenBack (j : ℕ) (w w' : Words) (o : H.Answer) : Type 0 where
   pub did : Did (Call.takeBack j) w w' o

@@ -2,19 +2,22 @@
 -- Assumes nothing.
 use Prim.Native.Nat.{ℕ, _+_, _-_, _*_, _≤_, _<_}
 use native.Mathlib.Omega.{arith}
-use mathlib.Core.Path.{_≡_, sym, ap, _∙_, subst}
+use mathlib.Core.Path.{_≡_, refl, sym, ap, _∙_, subst}
 use mathlib.Core.Bool.{true}
+use mathlib.Core.Logic.{⊎-elim}
 use mathlib.Core.List.{List}
+use lib.Dec.{ltb}
 use lib.ListN.{length, take, drop, replicate, length-drop}
 use lib.Seq.{length-take-le}
 use lib.Ieee.{Float}
-use borrow.Author.Tests.{ltb-true, leb-true}
+use borrow.Author.Tests.{ltb-true, ltb-false, leb-true, lt-ltb, le-ltb}
 use Rattle.definition.specs.Number.{zero64}
-use Rattle.definition.specs.Problem.{Setup, Terms, areaWords}
+use Rattle.definition.specs.Problem.{Setup, Terms, areaWords, areaNeeded}
 use Rattle.definition.specs.Counters as C
 use Rattle.definition.specs.Machine as M
 use Rattle.definition.specs.Driver.{begin}
 use Rattle.definition.specs.Log.{Entries}
+use Rattle.definition.proofs.Tests.{by-test}
 use Rattle.area.specs.Area.{view, X0}
 use Rattle.problem.specs.Setups.{placesIn, setupIn}
 use Rattle.problem.specs.declared.Options.{Options}
@@ -33,8 +36,9 @@ use Rattle.record.specs.Records.{setupFrom}
 use Rattle.replay.specs.Replays.{Keeps, Replays}
 use Rattle.replay.specs.declared.Replayed.{Replayed}
 use Rattle.replay.specs.declared.Replayed.the-variants as R
-use Rattle.rebuild.specs.Built.{zeroed, Markable, Settles, Built, Unbuilt, Builds}
+use Rattle.rebuild.specs.Built.{zeroed, Markable, Settles, allOf, Built, Unbuilt, Builds, Cut, Stays}
 use Rattle.held.proofs.Laws.{setup-same, marked-setup}
+use Rattle.rebuild.proofs.Reread.{refused-kept, short-kept}
 
 -- ---- the opening
 
@@ -113,6 +117,17 @@ pub markable : {t : Fit} {a : List Float} {ws : List ℕ} {limit room : ℕ} (r 
 markable (R.Done f) h = h .kept .shape
 markable (R.Refused c) h = tt
 
+-- fewer entries than are to stay, and no fewer
+pub all-short : (r : Replayed) (f : Fit) (count : ℕ) → r ≡ R.Done f → f .entries < count → R.Refused 17 ≡ allOf r count
+all-short r f count e l = rw (e, lt-ltb (f .entries) count l)
+
+pub all-there : (r : Replayed) (f : Fit) (count : ℕ) → r ≡ R.Done f → count ≤ f .entries → R.Done f ≡ allOf r count
+all-there r f count e l = rw (e, le-ltb (f .entries) count l)
+
+pub markable-all : {t : Fit} {a : List Float} {ws : List ℕ} {limit room : ℕ} (r : Replayed) {b : List Float} → Replays t a ws limit room r b → Markable (allOf r limit) (length b)
+markable-all {limit = limit} (R.Done f) {b} h = by-test (λ (q : Replayed). Markable q (length b)) (ltb (f .entries) limit) (λ e. tt) (λ e. h .kept .shape)
+markable-all (R.Refused c) h = tt
+
 record Ring (h : Shape) (size : ℕ) : Type 0 where
   some : 0 < h .m
   few : h .m ≤ 16
@@ -138,6 +153,13 @@ module _ {o : Options} {n : ℕ} {s : Setup} {t : Fit} {a : List Float} (k : Ope
         ∙ ap (λ (p : Options). setupAt p (view a (t .shape .n))) (h .options)
         ∙ opened-setup
 
+    kept-area : {f : Fit} {b : List Float} → Keeps t a ws limit room f b → areaNeeded s ≤ length b
+    unfolding begin
+    kept-area {f} {b} h =
+        let needed : areaWords (f .shape .n) (f .shape .m) ≡ areaNeeded s
+        = ap (λ (x : Terms). areaWords (x .n) (x .maxcor)) (h .terms ∙ ap (λ (x : M.Machine). x .terms) (k .is)) in
+        omega (arith, needed, held-ring (f .shape) (length b) (h .shape) .area)
+
     built : {f : Fit} {b c : List Float} → Replays t a ws limit room (R.Done f) b → Marks (f .shape) b c → Built s ws limit room (length a) f c
     built {f} {b} {c} h m =
         let kept = h .kept in
@@ -149,7 +171,7 @@ module _ {o : Options} {n : ℕ} {s : Setup} {t : Fit} {a : List Float} (k : Ope
           sound = rw (m .size) sound;
           mark = m .mark;
           settled = kept .settled (k .settled);
-          few = kept .few;
+          area = rw (m .size) (kept-area kept);
           words = kept .words;
           within = kept .within;
           stopped = kept .stopped;
@@ -176,6 +198,27 @@ module _ {o : Options} {n : ℕ} {s : Setup} {t : Fit} {a : List Float} (k : Ope
     pub builds : (r : Replayed) (b c : List Float) → Replays t a ws limit room r b → Settles r b c → Builds s ws limit room (length a) r c
     builds (R.Done f) b c h m = built h m
     builds (R.Refused i) b c h m = unbuilt h m
+
+    -- of entries that are all to stay
+    cut-short : {f : Fit} {b d : List Float} → Replays t a ws limit room (R.Done f) b → f .entries < limit → d ≡ zeroed b → Cut s ws limit room (length a) 17 d
+    cut-short h l z = record {
+      which = refl;
+      area = z ∙ ap (λ (i : ℕ). replicate i zero64) (h .size);
+      is = λ e. short-kept limit (h .is s e opened-setup (k .is)) (⊎-elim (λ w. w) (λ w. absurd (omega (arith, w))) (h .kept .stopped)) l;
+    }
+
+    stays : length ws ≤ room → (r : Replayed) (b c : List Float) → Replays t a ws limit room r b → Settles (allOf r limit) b c → Stays s ws limit room (length a) (allOf r limit) c
+    stays fits (R.Refused i) b c h m =
+        let u = unbuilt h m in
+        record { which = ⊎-elim (λ e. e) (λ e. absurd (omega (arith, e .1))) (u .which); area = u .area; is = λ e. refused-kept s ws limit room i (u .is e) }
+    stays fits (R.Done f) b c h m =
+        by-test (λ (q : Replayed). Settles q b c → Stays s ws limit room (length a) q c) (ltb (f .entries) limit)
+        (λ e z. cut-short h (ltb-true (f .entries) limit e) z)
+        (λ e z. (built h z, omega (arith, ltb-false (f .entries) limit e, h .kept .few)))
+        m
+
+    pub stays-by : length ws ≤ room → (r : Replayed) (b c : List Float) → Replays t a ws limit room r b → (q : Replayed) → q ≡ allOf r limit → Settles q b c → Stays s ws limit room (length a) q c
+    stays-by fits r b c h q e m = subst (λ (x : Replayed). Stays s ws limit room (length a) x c) (sym e) (stays fits r b c h (subst (λ (x : Replayed). Settles x b c) e m))
 
 -- the fit has no more words than were replayed
 pub built-fewer : {s : Setup} {limit room size : ℕ} {f : Fit} {b : List Float} (k : ℕ) (l : List ℕ) → Built s (take k l) limit room size f b → k ≤ length l → f .words ≤ k

@@ -1,23 +1,24 @@
 -- Laws of entries read one by one: a log of due replies gives them back, at any number of them, and reading on to the end is the definition's reading.
 -- Assumes nothing.
-use Prim.Native.Nat.{ℕ, zero, suc, _+_, _-_, _≤_}
+use Prim.Native.Nat.{ℕ, zero, suc, _+_, _-_, _≤_, _<_}
 use native.Mathlib.Omega.{arith}
 use mathlib.Core.Path.{_≡_, refl, sym, ap, ap₂, _∙_}
-use mathlib.Core.Logic.{_⊎_, ⊎-elim}
 use mathlib.Core.List.{List, [], _∷_, _++_, append-assoc, append-nil}
+use mathlib.Core.Option.{none, some}
 use lib.ListN.{length, drop, length-drop}
 use lib.Seq.{drop-length, drop-append-le}
 use lib.Ieee.{Float}
 use Rattle.definition.specs.Problem.{Setup}
 use Rattle.definition.specs.Machine.{Reply}
 use Rattle.definition.specs.Driver.{run}
-use Rattle.definition.specs.Log.{entryWords, logWords, Entries, readEntries, entriesOf}
+use Rattle.definition.specs.Log.{entryWords, logWords, Entries, readEntries, entriesOf, oneMore, afterEntries, firstEntries, stayed, entriesKept}
 use Rattle.definition.specs.Replies.{Due}
 use Rattle.definition.proofs.Entries.{log-more, log-back, entry-read, read-kept}
 use Rattle.definition.proofs.Histories.{due-struck, log-struck}
+use Rattle.fit.specs.State.{machineOf}
 use Rattle.fit.specs.declared.Fit.{Fit}
 use Rattle.replay.proofs.Entries.{words-some}
-use Rattle.replay.specs.Replays.{oneMore, afterEntries, firstEntries, ReplayedTo, RefusedAt}
+use Rattle.replay.specs.Replays.{ReplayedTo, RefusedAt}
 
 -- ---- a log, entry by entry
 
@@ -32,10 +33,10 @@ after-log s room (r ∷ rs) rest d h =
     ∙ entry-read room rs (run s rs) rest r (d .0) fits
 
 -- the words behind the entries that stay when j are struck
-abbrev pub behind : ℕ → List Reply → List ℕ
+abbrev behind : ℕ → List Reply → List ℕ
 behind j rs = drop (length (logWords (drop j rs))) (logWords rs)
 
-pub log-front : (j : ℕ) (rs : List Reply) → logWords (drop j rs) ++ behind j rs ≡ logWords rs
+log-front : (j : ℕ) (rs : List Reply) → logWords (drop j rs) ++ behind j rs ≡ logWords rs
 unfolding logWords
 log-front zero rs = ap (λ (ws : List ℕ). logWords rs ++ ws) (drop-length (logWords rs)) ∙ append-nil (logWords rs)
 log-front (suc j) [] = refl
@@ -49,45 +50,48 @@ pub entries-most : (rs : List Reply) → length rs ≤ length (logWords rs)
 entries-most [] = omega arith
 entries-most (r ∷ rs) = omega (arith, entries-most rs, log-more r rs, words-some r)
 
-struck-fewer : (j : ℕ) (rs : List Reply) → j ≤ length rs → length (logWords (drop j rs)) + j ≤ length (logWords rs)
-struck-fewer zero rs h = omega arith
-struck-fewer (suc j) [] h = absurd (omega arith)
-struck-fewer (suc j) (r ∷ rs) h = omega (arith, struck-fewer j rs (omega arith), log-more r rs, words-some r)
+-- ---- the entries that are to stay
 
--- ---- a log of due replies, replayed
+-- of a log of due replies, those that are left when j are struck
+pub log-kept : (s : Setup) (room : ℕ) (rs : List Reply) → Due s rs → length (logWords rs) ≤ room → (j : ℕ) → j ≤ length rs
+    → entriesKept s room (length rs - j) (logWords rs) ≡ some (drop j rs)
+log-kept s room rs due fits j h =
+    let count : length rs - j ≡ length (drop j rs) = omega (arith, length-drop j rs) in
+    ap stayed
+    (ap₂ (λ (i : ℕ) (ws : List ℕ). afterEntries i room (firstEntries s ws)) count (sym (log-front j rs))
+    ∙ after-log s room (drop j rs) (behind j rs) (due-struck s j rs due) (omega (arith, log-struck j rs)))
 
-repliesIn : Entries → List Reply
-repliesIn (Entries.kept rs) = rs
-repliesIn (Entries.refusedAt c) = []
-repliesIn (Entries.going ws rs m) = rs
+-- a reading that has stopped stays where it is
+after-stopped : (left k room : ℕ) (e d : Entries) → oneMore room d ≡ d → afterEntries k room e ≡ d → afterEntries (left + k) room e ≡ d
+unfolding afterEntries
+after-stopped zero k room e d stops is = let none : 0 + k ≡ k = omega arith in ap (λ (i : ℕ). afterEntries i room e) none ∙ is
+after-stopped (suc left) k room e d stops is =
+    let more : suc left + k ≡ suc (left + k) = omega arith in
+    ap (λ (i : ℕ). afterEntries i room e) more ∙ ap (oneMore room) (after-stopped left k room e d stops is) ∙ stops
 
-module _ (s : Setup) (room : ℕ) (rs : List Reply) (due : Due s rs) (fits : length (logWords rs) ≤ room) where
-  after-some : (k : ℕ) → k ≤ length rs
-      → afterEntries k room (firstEntries s (logWords rs)) ≡ Entries.going (behind (length rs - k) rs) (drop (length rs - k) rs) (run s (drop (length rs - k) rs))
-  after-some k h =
-      let j = length rs - k in
-      let count : k ≡ length (drop j rs) = omega (arith, length-drop j rs) in
-      ap₂ (λ (i : ℕ) (ws : List ℕ). afterEntries i room (firstEntries s ws)) count (sym (log-front j rs))
-      ∙ after-log s room (drop j rs) (behind j rs) (due-struck s j rs due) (omega (arith, log-struck j rs))
+stopped-kept : (s : Setup) (ws : List ℕ) (count room k : ℕ) (d : Entries) → k ≤ count → oneMore room d ≡ d → afterEntries k room (firstEntries s ws) ≡ d
+    → entriesKept s room count ws ≡ stayed d
+stopped-kept s ws count room k d h stops is =
+    let all : count ≡ count - k + k = omega arith in
+    ap stayed (ap (λ (i : ℕ). afterEntries i room (firstEntries s ws)) all ∙ after-stopped (count - k) k room (firstEntries s ws) d stops is)
 
-  -- no entry of it is refused
-  pub log-unrefused : (limit c : ℕ) → limit ≤ length rs → RefusedAt s (logWords rs) limit room c → ⊥
-  log-unrefused limit c h r =
-      let e = sym (r .is) ∙ after-some (r .number) (omega (arith, r .most)) in
-      let z : _≡_ {A = ℕ} 0 1 = cc in
-      absurd (omega arith)
+-- one of them is refused
+pub refused-kept : (s : Setup) (ws : List ℕ) (count room c : ℕ) → RefusedAt s ws count room c → entriesKept s room count ws ≡ none
+refused-kept s ws count room c r = stopped-kept s ws count room (r .number) (Entries.refusedAt c) (r .most) refl (r .is)
 
-  -- it leads to the replies that stay when j are struck
-  pub log-replayed : {f : Fit} {b : List Float} (j : ℕ) → j ≤ length rs → (r : ReplayedTo s (logWords rs) room f b) → f .entries ≤ length rs - j
-      → (f .words ≡ length (logWords rs)) ⊎ (f .entries ≡ length rs - j) → r .replies ≡ drop j rs
-  unfolding repliesIn
-  log-replayed {f} j h r few stopped =
-      let i = length rs - f .entries in
-      let same : r .replies ≡ drop i rs = ap repliesIn (sym (r .after) ∙ after-some (f .entries) (omega arith)) in
-      let size : f .words ≡ length (logWords (drop i rs)) = r .words ∙ ap (λ (qs : List Reply). length (logWords qs)) same in
-      let fewer = struck-fewer i rs (omega arith) in
-      let last : i ≡ j = ⊎-elim (λ e. omega (arith, fewer, size, e)) (λ e. omega (arith, e)) stopped in
-      same ∙ ap (λ (k : ℕ). drop k rs) last
+-- the words end before the last of them
+pub short-kept : {s : Setup} {ws : List ℕ} {room : ℕ} {f : Fit} {b : List Float} (count : ℕ) → ReplayedTo s ws room f b → f .words ≡ length ws → f .entries < count
+    → entriesKept s room count ws ≡ none
+unfolding afterEntries
+short-kept {s} {ws} {room} {f} {b} count r e h =
+    let end : drop (f .words) ws ≡ [] = ap (λ (i : ℕ). drop i ws) e ∙ drop-length ws in
+    stopped-kept s ws count room (suc (f .entries)) (Entries.kept (r .replies)) (omega arith) refl
+    (ap (oneMore room) (r .after ∙ ap (λ (l : List ℕ). Entries.going l (r .replies) (machineOf f b)) end))
+
+-- all of them are read
+pub all-kept : {s : Setup} {ws : List ℕ} {room : ℕ} {f : Fit} {b : List Float} (count : ℕ) (r : ReplayedTo s ws room f b) → f .entries ≡ count
+    → entriesKept s room count ws ≡ some (r .replies)
+all-kept {s} {ws} {room} count r e = ap stayed (ap (λ (i : ℕ). afterEntries i room (firstEntries s ws)) (sym e) ∙ r .after)
 
 -- ---- reading on to the end
 

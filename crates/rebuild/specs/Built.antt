@@ -1,13 +1,17 @@
 -- What the parts of a take back and of a restore do: words zeroed or copied, and the fit of a setup and entries built anew.
 use Prim.Native.Nat.{ℕ, _+_, _-_, _*_, _≤_, _<_}
 use mathlib.Core.Path.{_≡_}
-use mathlib.Core.Bool.{true}
+use mathlib.Core.Bool.{true, cond}
 use mathlib.Core.Logic.{_⊎_}
 use mathlib.Core.List.{List, _++_}
+use mathlib.Core.Option.{none}
+use lib.Dec.{ltb}
 use lib.ListN.{length, take, drop, replicate}
 use lib.Ieee.{Float}
 use Rattle.definition.specs.Number.{zero64}
 use Rattle.definition.specs.Problem as P
+use Rattle.definition.specs.Problem.{areaNeeded}
+use Rattle.definition.specs.Log.{entriesKept}
 use Rattle.definition.specs.Record.{wordsOf}
 use Rattle.definition.specs.Replies.{Accepted}
 use Rattle.area.specs.Area.{view}
@@ -49,6 +53,11 @@ abbrev pub Settles : Replayed → List Float → List Float → Type 0
 Settles (R.Done f) a b = Marks (f .shape) a b
 Settles (R.Refused k) a b = b ≡ zeroed a
 
+-- the replay of a log's first `count` entries: refused where there are fewer
+abbrev pub allOf : Replayed → ℕ → Replayed
+allOf (R.Done f) count = cond (ltb (f .entries) count) (R.Refused 17) (R.Done f)
+allOf (R.Refused c) count = R.Refused c
+
 -- ---- a fit built from a setup and the words of entries
 
 -- f with the marked area b, of `size` words, holds the setup s and what at most `limit` entries of ws make of it
@@ -58,7 +67,7 @@ pub record Built (s : P.Setup) (ws : List ℕ) (limit room size : ℕ) (f : Fit)
   pub sound : Sound (f .shape) (length b)
   pub mark : marked (f .shape) b ≡ true
   pub settled : Settled (f .search) (f .trials)
-  pub few : f .entries ≤ limit
+  pub area : areaNeeded s ≤ length b
   pub words : f .words ≤ length ws
   pub within : f .words ≤ room
   pub stopped : (f .words ≡ length ws) ⊎ (f .entries ≡ limit)
@@ -73,6 +82,17 @@ pub record Unbuilt (s : P.Setup) (ws : List ℕ) (limit room size number : ℕ) 
 abbrev pub Builds : P.Setup → List ℕ → ℕ → ℕ → ℕ → Replayed → List Float → Type 0
 Builds s ws limit room size (R.Done f) b = Built s ws limit room size f b
 Builds s ws limit room size (R.Refused c) b = Unbuilt s ws limit room size c b
+
+-- an entry that is to stay is unknown, cut or not due: the area is zero
+pub record Cut (s : P.Setup) (ws : List ℕ) (count room size number : ℕ) (b : List Float) : Type 0 where
+  pub which : number ≡ 17
+  pub area : b ≡ replicate size zero64
+  pub is : Accepted s → entriesKept s room count ws ≡ none
+
+-- of a log's first `count` entries, all of which are to stay: the fit of just as many, or none
+abbrev pub Stays : P.Setup → List ℕ → ℕ → ℕ → ℕ → Replayed → List Float → Type 0
+Stays s ws count room size (R.Done f) b = Built s ws count room size f b × (f .entries ≡ count)
+Stays s ws count room size (R.Refused c) b = Cut s ws count room size c b
 
 -- ---- the log
 

@@ -9,7 +9,7 @@ ghost use Rattle.area.specs.Area.{view};
 ghost use Rattle.opening.specs.Opened.{setupAt, Room, Opened};
 ghost use Rattle.driver.specs.Replies.{isReady};
 ghost use Rattle.record.specs.Records.{wordsIn, setupFrom, Opens};
-ghost use Rattle.rebuild.specs.Built.{zeroed, struckOut, entriesIn, headed, Markable, Settles, Builds, Shortens, Reloads};
+ghost use Rattle.rebuild.specs.Built.{zeroed, struckOut, entriesIn, headed, Markable, Settles, allOf, Builds, Stays, Shortens, Reloads};
 use fit::Fit;
 use problem::Options;
 use replay::Replayed;
@@ -37,6 +37,21 @@ fn zero_log(log: &mut [u64], from: usize, to: usize)
     }
 }
 
+// The replay of a log's first `count` entries: where the words end before the last of them, one is cut.
+fn all_of(r: Replayed, count: usize) -> Replayed
+    ensures { λ o. ⌜ o ≡ allOf r count ⌝ }
+{
+    match r {
+        Replayed::Refused(_) => r,
+        Replayed::Done(t) => {
+            if t.entries < count {
+                return Replayed::Refused(17);
+            }
+            r
+        }
+    }
+}
+
 // What a replay leaves: an entry that is refused leaves the area zero.
 fn settle(area: &mut [f64], r: Replayed)
     requires { ⌜ Markable r (length (now area)) ⌝ }
@@ -59,10 +74,10 @@ fn begin_from(o: Options, area: &mut [f64], v: &[f64], n: usize) -> Fit
     opening::begin(o, area, &v[0..n], &v[n..2 * n], &v[2 * n..3 * n])
 }
 
-// The fit of the log's first `count` entries, from the setup that state and area hold.
+// The fit of the log's first `count` entries, no fewer, from the setup that state and area hold.
 fn replay_log(fit: Fit, area: &mut [f64], log: &[u64], count: usize) -> Replayed
     requires { ⌜ (isReady fit (length (now area)) ≡ true) × (fit .words ≤ length (now log)) ⌝ }
-    ensures { λ o. ⌜ Builds (setupAt (fit .options) (view (now (area .entry)) (fit .shape .n))) (take (fit .words) (now (log .entry))) count (length (now (log .entry))) (length (now (area .entry))) o (now (area .exit)) ⌝ }
+    ensures { λ o. ⌜ Stays (setupAt (fit .options) (view (now (area .entry)) (fit .shape .n))) (take (fit .words) (now (log .entry))) count (length (now (log .entry))) (length (now (area .entry))) o (now (area .exit)) ⌝ }
 {
     let o = fit.options;
     let t = opening::reset(o, area, fit.shape.n);
@@ -73,8 +88,9 @@ fn replay_log(fit: Fit, area: &mut [f64], log: &[u64], count: usize) -> Replayed
         words: fit.words,
     };
     let r = replay::replay(t, area, source, log, &none[..], count, log.len());
-    settle(area, r);
-    r
+    let all = all_of(r, count);
+    settle(area, all);
+    all
 }
 
 // The fit of a record's setup and entries; the log is not touched. Each entry has a word, so none is past `words` of them.
@@ -116,7 +132,7 @@ fn copy_entries(log: &mut [u64], input: &[u8], at: usize, count: usize)
 // The log's first `count` entries are kept: the fit of them, and the words of the others zeroed. Where one is refused the log stays.
 pub fn shorten(fit: Fit, area: &mut [f64], log: &mut [u64], count: usize) -> Replayed
     requires { ⌜ (isReady fit (length (now area)) ≡ true) × (fit .words ≤ length (now log)) ⌝ }
-    ensures { λ r. ⌜ Builds (setupAt (fit .options) (view (now (area .entry)) (fit .shape .n))) (take (fit .words) (now (log .entry))) count (length (now (log .entry))) (length (now (area .entry))) r (now (area .exit)) × Shortens r (fit .words) (now (log .entry)) (now (log .exit)) ⌝ }
+    ensures { λ r. ⌜ Stays (setupAt (fit .options) (view (now (area .entry)) (fit .shape .n))) (take (fit .words) (now (log .entry))) count (length (now (log .entry))) (length (now (area .entry))) r (now (area .exit)) × Shortens r (fit .words) (now (log .entry)) (now (log .exit)) ⌝ }
 {
     let built = replay_log(fit, area, log, count);
     let Replayed::Done(back) = built else {

@@ -1,15 +1,15 @@
 -- Where entries stand, and what a replay of them leaves.
-use Prim.Native.Nat.{ℕ, zero, suc, _+_, _*_, _≤_, _<_}
+use Prim.Native.Nat.{ℕ, _+_, _*_, _≤_, _<_}
 use mathlib.Core.Path.{_≡_}
 use mathlib.Core.Bool.{true, false, cond}
 use mathlib.Core.Logic.{_⊎_}
-use mathlib.Core.List.{List, [], _++_}
+use mathlib.Core.List.{List, _++_}
 use lib.ListN.{length, take, drop}
 use lib.Ieee.{Float}
 use Rattle.definition.specs.Problem as P
 use Rattle.definition.specs.Machine as M
 use Rattle.definition.specs.Driver as D
-use Rattle.definition.specs.Log.{Entries, nextEntry, logWords}
+use Rattle.definition.specs.Log.{Entries, logWords}
 use Rattle.definition.specs.Record.{wordsOf}
 use Rattle.definition.specs.Replies.{Accepted, Due}
 use Rattle.area.specs.Area.{view, X0, Lower, Upper}
@@ -21,6 +21,8 @@ use Rattle.driver.specs.Replies.{shapeHeld}
 use Rattle.replay.specs.declared.Source.{Source}
 use Rattle.replay.specs.declared.Replayed.{Replayed}
 use Rattle.replay.specs.declared.Replayed.the-variants.{Done, Refused}
+pub use Rattle.definition.specs.Log.{oneMore, firstEntries}
+unfoldable pub use Rattle.definition.specs.Log.{afterEntries}
 
 -- ---- words
 
@@ -50,21 +52,6 @@ withLog entries words t = record {
   entries = entries;
   words = words;
 }
-
--- ---- entries, one by one
-
-abbrev pub oneMore : ℕ → Entries → Entries
-oneMore room (Entries.kept rs) = Entries.kept rs
-oneMore room (Entries.refusedAt c) = Entries.refusedAt c
-oneMore room (Entries.going ws rs m) = nextEntry room ws rs m
-
--- the definition's reading of entries, after k of them
-unfoldable pub afterEntries : ℕ → ℕ → Entries → Entries
-afterEntries zero room e = e
-afterEntries (suc k) room e = oneMore room (afterEntries k room e)
-
-abbrev pub firstEntries : P.Setup → List ℕ → Entries
-firstEntries s ws = Entries.going ws [] (D.begin s)
 
 -- ---- a replay
 

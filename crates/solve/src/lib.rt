@@ -212,22 +212,26 @@ fn regular(scale: f64) -> bool
     !(scale == 0.0)
 }
 
-// The elimination of the first n rows and columns, once for every right side: the matrix is left triangular, place k of order is the row
-// that changed places with row k, and row k of multipliers are the multiples of row k that were taken from the rows below.
+// The elimination of the first n rows and columns, once for every right side: the answer is the triangular rows, place k of order is the
+// row that changed places with row k, row k of multipliers are the multiples of row k that were taken from the rows below, and found says
+// that every column has its pivot.
 pub fn factor(
     n: usize,
-    a: &mut [[f64; 32]; 32],
+    mut a: [[f64; 32]; 32],
     multipliers: &mut [[f64; 32]; 32],
     order: &mut [usize; 32],
-) -> bool
+    found: &mut bool,
+) -> [[f64; 32]; 32]
     requires { ⌜ (n ≤ 32) × (length (now multipliers) ≡ 32) × (length (now order) ≡ 32) ⌝ }
-    ensures { λ r. ⌜ Factored n (now (a .entry)) r (now (a .exit)) (now (multipliers .exit)) (now (order .exit)) ⌝ }
+    ensures { λ r. ⌜ Factored n a (now (found .exit)) r (now (multipliers .exit)) (now (order .exit)) ⌝ }
 {
-    let most = scale(a, n);
+    let most = scale(&a, n);
     if !regular(most) {
-        return false;
+        *found = false;
+        return a;
     }
-    triangular(a, multipliers, order, n, most)
+    *found = triangular(&mut a, multipliers, order, n, most);
+    a
 }
 
 // The product of row i past its diagonal and x, from -0.0.
@@ -356,10 +360,10 @@ pub fn solve(n: usize, a: [[f64; 32]; 32], b: [f64; 32]) -> Answer
     requires { ⌜ n ≤ 32 ⌝ }
     ensures { λ r. ⌜ answerOf r ≡ solveOf n a b ⌝ }
 {
-    let mut rows = a;
     let z = [0.0f64; 32];
     let mut multipliers = [z; 32];
     let mut order = [0usize; 32];
-    let found = factor(n, &mut rows, &mut multipliers, &mut order);
+    let mut found = false;
+    let rows = factor(n, a, &mut multipliers, &mut order, &mut found);
     solve_with(n, found, &rows, &multipliers, &order, b)
 }

@@ -23,7 +23,7 @@ from-cauchy-requires c κs =
     let b = f .before .before .before .before .before .before in
     let l = b .before .before .before .before in
     let k = g .generalized-cauchy .ensures .kept .high in (
-      search needs,
+      rw (c .before .before .before .before .before .before .before .area2 .given ∙ b .before .before .before .area .given) (l .before .before .before .before .pre .0),
       modelled-kept _ k (record { laid = l .lay-columns .ensures .0; block = b .block .ensures }),
       prepared-kept _ k (prepared (record { laid = l .lay-columns .ensures .0; block = b .block .ensures }) (f .factor .ensures)),
     )

@@ -1,14 +1,17 @@
 -- `rebuild::replay_log` meets its contract. Assumes nothing.
 use mathlib.Core.Path.{_≡_, refl, sym, subst}
-use mathlib.Core.Bool.{true, false, false≢true}
+use mathlib.Core.Bool.{true, false≢true}
 use borrow.Author.Needs.{needs}
-use Prim.Native.Nat.{ℕ}
+use Prim.Native.Nat.{ℕ, _≤_}
+use native.Mathlib.Omega.{arith}
 use lib.ListN.{length, take}
+use lib.Seq.{length-take-le}
 use Rattle.area.specs.Area.{view}
 use Rattle.opening.specs.Opened.{setupAt}
 use Rattle.driver.specs.Replies.{isReady}
-use Rattle.rebuild.specs.Built.{Builds}
-use Rattle.rebuild.proofs.Built.{ready-room, opened-ready, opened-here, markable, builds}
+use Rattle.replay.specs.declared.Replayed.{Replayed}
+use Rattle.rebuild.specs.Built.{Markable, Stays}
+use Rattle.rebuild.proofs.Built.{ready-room, opened-ready, opened-here, markable-all, stays-by}
 use Rattle.rebuild.proofs.replay_log.Statement.{statement}
 use Rattle.rebuild.proofs.replay_log.Tie as tie
 
@@ -28,17 +31,25 @@ replay-requires c κs =
     )
 
 settle-requires : tie.Need-settle-requires
-settle-requires c κs = let r = c .before .before .before .replay in markable (r .result) (r .ensures)
+settle-requires c κs =
+    let r = c .before .before .before .before .replay in
+    let all = c .before .all-of in
+    subst (λ (q : Replayed). Markable q (length (r .last .1 .0))) (sym (all .ensures)) (markable-all (r .result) (r .ensures))
 
 returns : tie.Need-returns
 returns c =
-    let s = c .before .before .before .before .before .before .before .before .before .before .before .before .before .before .before .before in
-    let r = c .before .before .before .before .before .before .before .before .before .before .before .reset in
-    let p = c .before .before .before .before .before .before .replay in
+    let s = c .before .before .before .before .before .before .before .before .before .before .before .before .before .before .before .before .before in
+    let a = s .args in
+    let r = c .before .before .before .before .before .before .before .before .before .before .before .before .reset in
+    let p = c .before .before .before .before .before .before .before .replay in
+    let all = c .before .before .before .before .all-of in
     let q = c .before .before .settle in
-    let long : length (r .last .1 .0) ≡ length (s .args .area .now) = search needs in
-    subst (λ (i : ℕ). Builds (setupAt (s .args .fit .options) (view (s .args .area .now) (s .args .fit .shape .n))) (take (s .args .fit .words) (s .args .log .now)) (s .args .count) (length (s .args .log .now)) i (p .result) (q .last .0)) long
-    (builds (opened-here long (r .ensures)) (p .result) (p .last .1 .0) (q .last .0) (p .ensures) (q .ensures))
+    let long : length (r .last .1 .0) ≡ length (a .area .now) = search needs in
+    let ws = take (a .fit .words) (a .log .now) in
+    let fits : length ws ≤ length (a .log .now) = omega (arith, length-take-le (a .fit .words) (a .log .now) (s .pre .1)) in
+    subst
+    (λ (i : ℕ). Stays (setupAt (a .fit .options) (view (a .area .now) (a .fit .shape .n))) ws (a .count) (length (a .log .now)) i (all .result) (q .last .0)) long
+    (stays-by (opened-here long (r .ensures)) {ws = ws} fits (p .result) (p .last .1 .0) (q .last .0) (p .ensures) (all .result) (all .ensures) (q .ensures))
 
 pub replay-log-spec : {M : Type 1} → statement M
-replay-log-spec = tie.close (tie.spec reset-requires (λ c. refl) replay-requires settle-requires (λ c. search needs) returns)
+replay-log-spec = tie.close (tie.spec reset-requires (λ c. refl) replay-requires (λ c κs. search needs) settle-requires (λ c. search needs) returns)

@@ -5,7 +5,7 @@ use lib.ListN.{length, take}
 use Rattle.area.specs.Area.{view}
 use Rattle.opening.specs.Opened.{setupAt}
 use Rattle.replay.specs.declared.Replayed.{Replayed}
-use Rattle.rebuild.specs.Built.{Builds, Shortens}
+use Rattle.rebuild.specs.Built.{Stays, Shortens}
 use Rattle.rebuild.proofs.Built.{built-fewer}
 use Rattle.rebuild.proofs.shorten.Statement.{statement}
 use Rattle.rebuild.proofs.shorten.Tie as tie
@@ -20,14 +20,14 @@ zero-log-requires c κs =
     let s = c .before .before .before .before .before .before .before .before .before .before .before in
     let a = s .args in
     let r = c .before .before .before .before .before .before .replay-log in
-    let h = subst (λ (q : Replayed). Builds (setupAt (a .fit .options) (view (a .area .now) (a .fit .shape .n))) (take (a .fit .words) (a .log .now)) (a .count) (length (a .log .now)) (length (a .area .now)) q (r .last .1 .0)) (c .before .before .built .given .1) (r .ensures) in
-    (built-fewer (a .fit .words) (a .log .now) h (s .pre .1), s .pre .1)
+    let h = subst (λ (q : Replayed). Stays (setupAt (a .fit .options) (view (a .area .now) (a .fit .shape .n))) (take (a .fit .words) (a .log .now)) (a .count) (length (a .log .now)) (length (a .area .now)) q (r .last .1 .0)) (c .before .before .built .given .1) (r .ensures) in
+    (built-fewer (a .fit .words) (a .log .now) (h .0) (s .pre .1), s .pre .1)
 
 returns-2 : tie.Need-returns-2
 returns-2 c =
     let a = c .before .before .before .before .before .before .before .before .before .before .before .before .before .before .args in
     let r = c .before .before .before .before .before .before .before .before .before .replay-log in
-    (subst (λ (q : Replayed). Builds (setupAt (a .fit .options) (view (a .area .now) (a .fit .shape .n))) (take (a .fit .words) (a .log .now)) (a .count) (length (a .log .now)) (length (a .area .now)) q (r .last .1 .0)) (c .before .before .before .before .before .built .given .1) (r .ensures), c .before .before .zero-log .ensures)
+    (subst (λ (q : Replayed). Stays (setupAt (a .fit .options) (view (a .area .now) (a .fit .shape .n))) (take (a .fit .words) (a .log .now)) (a .count) (length (a .log .now)) (length (a .area .now)) q (r .last .1 .0)) (c .before .before .before .before .before .built .given .1) (r .ensures), c .before .before .zero-log .ensures)
 
 pub shorten-spec : {M : Type 1} → statement M
 shorten-spec =
