@@ -18,27 +18,10 @@ use Rattle.definition.specs.History.{Call, Answer, History, answerUnless, resto
 use Rattle.lbfgsb.specs.Words.{Words, lengths, setupOf, Holds}
 use Rattle.lbfgsb.specs.Did.{Zeroed, Restored, Restores, Replied, Moved, Shortened, TakesReplies, TakesHeld, TakesBack, TakenBack, refusedBy, checkAt, checkBack, repliesLeft}
 use Rattle.lbfgsb.specs.Chain.{Chain, Allowed, Leaves, Struck, Past, LogPast}
+use Rattle.lbfgsb.proofs.AnyWords.{numberOf, isRefused}
 use Rattle.lbfgsb.proofs.Trace.{Called, by-start, by-restore, by-reply, by-take-back, by-question, by-report, by-replies, by-entry, by-save, after}
 
 -- ---- answers
-
-abbrev numberOf : Answer → ℕ
-numberOf (Answer.refused r) = r .number
-numberOf Answer.done = 0
-numberOf (Answer.asked q) = 0
-numberOf (Answer.reported r) = 0
-numberOf (Answer.counted k) = 0
-numberOf (Answer.entered ws) = 0
-numberOf (Answer.saved bs) = 0
-
-abbrev pub isRefused : Answer → Bool
-isRefused (Answer.refused r) = true
-isRefused Answer.done = false
-isRefused (Answer.asked q) = false
-isRefused (Answer.reported r) = false
-isRefused (Answer.counted k) = false
-isRefused (Answer.entered ws) = false
-isRefused (Answer.saved bs) = false
 
 not-both : {o : Answer} {r : Refusal} → o ≡ Answer.done → o ≡ Answer.refused r → ⊥
 not-both e q = false≢true (ap isRefused (sym e ∙ q))

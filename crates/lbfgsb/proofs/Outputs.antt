@@ -63,6 +63,10 @@ saved-written : (z : Wrote) (out out' : List ℕ) → Written (taken (saved z ou
 saved-written (W.Is k) out out' h = first-written k h
 saved-written (W.Refused c) out out' h = none-written h
 
+-- equal answers leave equal outputs, where they were equal
+pub answer-decides : {A : Type 0} (front out a b : List A) → Output front out a → Output front out b → a ≡ b
+answer-decides front out a b p q = p ∙ sym q
+
 -- ---- the theorems: the answer and the output are those of `Called`
 
 pub question-output :

@@ -20,7 +20,7 @@ use Rattle.lbfgsb.specs.Did.{Restores}
 use Rattle.lbfgsb.specs.Chain.{Chain, Allowed, Keeps, Alike, numbersOf}
 use Rattle.lbfgsb.proofs.Trace.{Called, did, opening, keeps, after}
 use Rattle.lbfgsb.proofs.Alike.{alike}
-use Rattle.lbfgsb.proofs.Leaves.{isRefused}
+use Rattle.lbfgsb.proofs.AnyWords.{isRefused}
 
 saved-is : (z : Lengths) (s : Setup) (rs : List Reply) (room : ℕ) (bs : List ℕ) → Answer.saved bs ≡ historyAnswer z (History.fit s rs) (Call.save room) → bs ≡ recordBytes s rs
 saved-is z s rs room bs e = go (refusal z (History.fit s rs) (Call.save room)) e

@@ -249,15 +249,15 @@ from-zeros cs f k l w' o r =
     rw (r .sized) (from-allowed cs w w' o r (Allowed.blank (zeros-blank w k refl)))
 
 -- from any words: a first call that the definition accepts opens a fit
-pub start-opens :
+pub start-allowed :
     {s : P.Setup} {cs : List Call} {os : List H.Answer} {w w' : Words} → Chain Stepped w (Call.start s ∷ cs) os w'
     → (validate s then checkArea (lengths w) s) ≡ none → Allowed w (Call.start s ∷ cs) os
-start-opens {s} {cs} {w = w} (Chain.call {os = os} d ds) e =
+start-allowed {s} {cs} {w = w} (Chain.call {os = os} d ds) e =
     subst (λ (o : H.Answer). Allowed w (Call.start s ∷ cs) (o ∷ os)) (sym (d .opening .always ∙ ap (λ (c : P.Check). refusedBy c H.Answer.done) e))
     (Allowed.opens Opens.started)
 
-pub restore-opens :
+pub restore-allowed :
     {bs : List ℕ} {s : P.Setup} {rs : List M.Reply} {cs : List Call} {os : List H.Answer} {w w' : Words} → Chain Stepped w (Call.restore bs ∷ cs) os w'
     → readRecord (lengths w) bs ≡ Reading.accepted s rs → Allowed w (Call.restore bs ∷ cs) os
-restore-opens {bs} {cs = cs} {w = w} (Chain.call {os = os} d ds) e =
+restore-allowed {bs} {cs = cs} {w = w} (Chain.call {os = os} d ds) e =
     subst (λ (o : H.Answer). Allowed w (Call.restore bs ∷ cs) (o ∷ os)) (sym (d .opening .always ∙ ap restoredAnswer e)) (Allowed.opens Opens.restored)
