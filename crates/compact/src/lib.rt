@@ -2,7 +2,7 @@
 ghost use mathlib.Core.Path.{_≡_};
 ghost use mathlib.Core.Bool.{_&&_};
 ghost use Prim.Native.Nat.{ℕ, _+_, _*_, _≤_, _<_};
-ghost use lib.ListN.{length, replicate};
+ghost use lib.ListN.{length};
 ghost use Rattle.definition.specs.Number.{over, times, minus, zero64};
 ghost use Rattle.definition.specs.Vector.{tab, dot as dotOf};
 ghost use Rattle.definition.specs.Compact.{curved as curvedOf, usable as usableOf, pairOf, columnWord, diagonalEntry, lowerEntry, blockEntry};
@@ -178,14 +178,6 @@ pub fn zeros() -> [f64; 32]
     [0.0; 32]
 }
 
-// A matrix of zeros.
-pub fn zero_rows() -> [[f64; 32]; 32]
-    ensures { λ r. ⌜ r ≡ replicate 32 zeroRow ⌝ }
-{
-    let z = zeros();
-    [z; 32]
-}
-
 // Row i of the block, in an array of 32; the rows above stand in b.
 fn block_row(area: &[f64], h: Shape, theta: f64, b: &[[f64; 32]; 32], i: usize) -> [f64; 32]
     requires { ⌜ Sound h (length (now area)) × (i < 2 * h .pairs) × (now b ≡ blockTo h theta (view (now area) (h .n)) i) ⌝ }
@@ -207,7 +199,8 @@ pub fn block(area: &[f64], h: Shape, theta: f64) -> [[f64; 32]; 32]
     ensures { λ r. ⌜ r ≡ blockOf (h .n) (compactOf h theta (view (now (area .entry)) (h .n))) ⌝ }
 {
     let size = 2 * h.pairs;
-    let mut b = zero_rows();
+    let z = zeros();
+    let mut b = [z; 32];
     let mut i = 0;
     while i < size {
         let r = block_row(area, h, theta, &b, i);

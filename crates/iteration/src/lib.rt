@@ -20,7 +20,8 @@ fn model(area: &mut [f64], h: Shape, theta: f64) -> bool
 {
     compact::lay_columns(area, h, theta);
     let block = compact::block(area, h, theta);
-    let mut multipliers = compact::zero_rows();
+    let z = compact::zeros();
+    let mut multipliers = [z; 32];
     let mut order = [0usize; 32];
     let mut found = false;
     let rows = solve::factor(2 * h.pairs, block, &mut multipliers, &mut order, &mut found);

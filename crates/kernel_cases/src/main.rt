@@ -96,7 +96,8 @@ fn row(s: &[u8], i: usize, n: usize) -> [f64; 32]
 fn rows(s: &[u8], i: usize, n: usize) -> [[f64; 32]; 32]
     requires { ⌜ n ≤ 32 ⌝ }
 {
-    let mut a = compact::zero_rows();
+    let z = compact::zeros();
+    let mut a = [z; 32];
     let mut at = i;
     let mut k = 0;
     while k < n {
@@ -357,7 +358,8 @@ fn multiplied(area: &mut [f64], h: compact::Shape, theta: f64) -> bool
 {
     compact::lay_columns(area, h, theta);
     let b = compact::block(area, h, theta);
-    let mut multipliers = compact::zero_rows();
+    let z = compact::zeros();
+    let mut multipliers = [z; 32];
     let mut order = [0usize; 32];
     let mut found = false;
     let rows = solve::factor(2 * h.pairs, b, &mut multipliers, &mut order, &mut found);
@@ -492,7 +494,8 @@ fn is_geometry(area: &mut [f64], h: compact::Shape, theta: f64, s: &[u8], at: us
 {
     compact::lay_columns(area, h, theta);
     let b = compact::block(area, h, theta);
-    let mut multipliers = compact::zero_rows();
+    let z = compact::zeros();
+    let mut multipliers = [z; 32];
     let mut order = [0usize; 32];
     let mut found = false;
     let rows = solve::factor(2 * h.pairs, b, &mut multipliers, &mut order, &mut found);

@@ -14,12 +14,34 @@ use lib.Ieee.{Float, nan}
 use lib.Ieee.Scale.{finite}
 use Rattle.definition.specs.Number.{minus, times, over, zero64}
 use Rattle.definition.specs.Vector.{foldTo, word, allFinite, finiteOnly}
-use Rattle.definition.specs.Solve.{Matrix, System, system, row, entry, scaleOf, pivotOf, swapRows, swapWords, lessRow, lessPivot, eliminated}
+use Rattle.definition.specs.Solve.{Matrix, System, system, row, entry, put, scaleOf, pivotOf, swapRows, swapWords, lessRow, lessPivot, eliminated}
 use Rattle.definition.specs.Solve.{pivots, onColumn, column, triangular, backward, solvedFrom, solve}
 use Rattle.area.specs.Area.{given}
-use Rattle.area.proofs.Laws.{looped-stays}
+use Rattle.area.proofs.Laws.{Looped, looped-none, looped-more, looped-done, looped-stays}
 use Rattle.solve.specs.Answers.{systemIf}
 use Rattle.solve.specs.Factors.{clearedTo, stepped, forwardTo, Within, Eliminates, Clears, Triangular, regular, Factored, solvedWith}
+
+-- ---- the columns of row i past k: a is t after d of them, p being row k of both
+
+pub record Lessening (n : ℕ) (f : Float) (k i : ℕ) (p : List Float) (a t : Matrix) (d : ℕ) : Type 0 where
+  pub done : Looped (n - (k + 1)) (λ d c. put c i (k + 1 + d) (minus (entry c i (k + 1 + d)) (times f (entry c k (k + 1 + d))))) a t d
+  pub pivot : row t k ≡ p
+
+pub lessening-none : {n : ℕ} {f : Float} {k i : ℕ} {p : List Float} {a : Matrix} → row a k ≡ p → Lessening n f k i p a a 0
+lessening-none e = record { done = looped-none; pivot = e }
+
+pub lessening-more : {n : ℕ} {f : Float} {k i : ℕ} {p : List Float} {a t u : Matrix} {d : ℕ} → Lessening n f k i p a t d → d < n - (k + 1) → k < i
+    → u ≡ put t i (k + 1 + d) (minus (entry t i (k + 1 + d)) (times f (word p (k + 1 + d)))) → Lessening n f k i p a u (d + 1)
+lessening-more {n} {f} {k} {i} {p} {a} {t} {u} {d} r l below e =
+    let j = k + 1 + d in
+    let same : u ≡ put t i j (minus (entry t i j) (times f (entry t k j))) =
+    e ∙ ap (λ (q : List Float). put t i j (minus (entry t i j) (times f (word q j)))) (sym (r .pivot)) in
+    record { done = looped-more (r .done) l same; pivot = ap (λ (c : Matrix). row c k) e ∙ getD-set-other t i k _ [] (λ q. omega (arith, q)) ∙ r .pivot }
+
+pub lessening-done : {n : ℕ} {f : Float} {k i : ℕ} {p : List Float} {a t : Matrix} {d : ℕ} → Lessening n f k i p a t d → n - (k + 1) ≤ d → row a k ≡ p
+    → (t ≡ lessRow n f a k i) × (row t k ≡ row a k)
+unfolding lessRow
+lessening-done r l e = (looped-done (r .done) l, r .pivot ∙ sym e)
 
 -- ---- the rows below row k: a is t after d of them, with their multipliers in m
 

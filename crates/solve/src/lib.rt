@@ -99,27 +99,27 @@ fn swap_rows(a: &mut [[f64; 32]; 32], k: usize, p: usize)
     a[p] = r;
 }
 
-// Row i, less f times row k, at the columns past k.
-fn less_row(a: &mut [[f64; 32]; 32], n: usize, f: f64, k: usize, i: usize)
-    requires { ⌜ (k < n) × (i < n) × (n ≤ 32) ⌝ }
-    ensures { λ _. ⌜ now (a .exit) ≡ lessRow n f (now (a .entry)) k i ⌝ }
+// Row i, less f times row k, at the columns past k. Row k is lent as p, apart from the matrix, so that the compiler can make vector code of the loop.
+fn less_row(a: &mut [[f64; 32]; 32], p: &[f64; 32], n: usize, f: f64, k: usize, i: usize)
+    requires { ⌜ (k < i) × (i < n) × (n ≤ 32) × (row (now a) k ≡ now p) ⌝ }
+    ensures { λ _. ⌜ (now (a .exit) ≡ lessRow n f (now (a .entry)) k i) × (row (now (a .exit)) k ≡ row (now (a .entry)) k) ⌝ }
 {
     let columns = n - (k + 1);
     let mut d = 0;
     while d < columns {
         let j = k + 1 + d;
-        a[i][j] = a[i][j] - f * a[k][j];
+        a[i][j] = a[i][j] - f * p[j];
         d += 1;
     }
 }
 
-// Row i, less the multiple of row k that clears its entry in column k. The answer is the multiplier.
-fn less_pivot(a: &mut [[f64; 32]; 32], n: usize, k: usize, i: usize) -> f64
-    requires { ⌜ (k < n) × (i < n) × (n ≤ 32) ⌝ }
-    ensures { λ r. ⌜ (r ≡ over (entry (now (a .entry)) i k) (entry (now (a .entry)) k k)) × (now (a .exit) ≡ lessRow n r (now (a .entry)) k i) ⌝ }
+// Row i, less the multiple of row k that clears its entry in column k. Row k is lent as p; the answer is the multiplier.
+fn less_pivot(a: &mut [[f64; 32]; 32], p: &[f64; 32], n: usize, k: usize, i: usize) -> f64
+    requires { ⌜ (k < i) × (i < n) × (n ≤ 32) × (row (now a) k ≡ now p) ⌝ }
+    ensures { λ r. ⌜ (r ≡ over (entry (now (a .entry)) i k) (entry (now (a .entry)) k k)) × (now (a .exit) ≡ lessRow n r (now (a .entry)) k i) × (row (now (a .exit)) k ≡ row (now (a .entry)) k) ⌝ }
 {
     let f = a[i][k] / a[k][k];
-    less_row(a, n, f, k, i);
+    less_row(a, p, n, f, k, i);
     f
 }
 
@@ -129,10 +129,11 @@ fn eliminate(a: &mut [[f64; 32]; 32], n: usize, k: usize) -> [f64; 32]
     ensures { λ r. ⌜ Eliminates n k (now (a .entry)) r (now (a .exit)) ⌝ }
 {
     let rows = n - (k + 1);
+    let p = a[k];
     let mut m = [0.0f64; 32];
     let mut d = 0;
     while d < rows {
-        m[k + 1 + d] = less_pivot(a, n, k, k + 1 + d);
+        m[k + 1 + d] = less_pivot(a, &p, n, k, k + 1 + d);
         d += 1;
     }
     m

@@ -135,7 +135,8 @@ fn start(size: usize) -> [[f64; 32]; 32]
     ensures { λ r. ⌜ r ≡ grid size (λ i j. negZero) ⌝ }
 {
     let r = start_row(size);
-    let mut a = compact::zero_rows();
+    let z = compact::zeros();
+    let mut a = [z; 32];
     let mut i = 0;
     while i < size {
         a[i] = r;

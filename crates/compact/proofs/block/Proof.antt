@@ -1,6 +1,8 @@
 -- `compact::block` meets its contract: the first i rows are made. Assumes nothing.
 use Prim.Native.Nat.{ℕ, _-_, _*_}
+use mathlib.Core.Path.{ap}
 use native.Mathlib.Omega.{arith}
+use lib.ListN.{replicate}
 use Rattle.definition.specs.Number.{zero64}
 use Rattle.definition.specs.Compact.{blockEntry, padded, zeroRow}
 use Rattle.area.specs.Area.{view}
@@ -10,14 +12,14 @@ use Rattle.compact.proofs.block.Statement.{statement}
 use Rattle.compact.proofs.block.Tie as tie
 
 abbrev Inv-loop : tie.InvT-loop
-Inv-loop area h theta size b₀ i₀ b i =
+Inv-loop area h theta size z i₀ b i =
     Padding zeroRow (2 * h .pairs) (λ (i : ℕ). padded zero64 (2 * h .pairs) (blockEntry (h .n) (compactOf h theta (view area (h .n))) i)) b i
 
 abbrev μ-loop : tie.MeasureT-loop
-μ-loop area h theta size b₀ i₀ b i = 2 * h .pairs - i
+μ-loop area h theta size z i₀ b i = 2 * h .pairs - i
 
 loop-holds : tie.Need-loop-holds Inv-loop μ-loop
-loop-holds c = padding-none (omega arith) (c .zero-rows .ensures)
+loop-holds c = padding-none (omega arith) (ap (replicate 32) (c .zeros .ensures))
 
 loop-again : tie.Need-loop-again Inv-loop μ-loop
 loop-again c = search laws

@@ -1,9 +1,8 @@
 -- `iteration::model` meets its contract: no Cauchy point, or what the minimum over its free coordinates gives. Assumes nothing.
-use mathlib.Core.Path.{refl, ap, _∙_}
+use mathlib.Core.Path.{refl, _∙_}
 use native.Mathlib.Omega.{arith}
 use borrow.Author.Needs.{needs}
 use borrow.Author.Tests.{not-true, not-false}
-use lib.ListN.{length}
 use Rattle.compact.proofs.Models.{modelled-kept, prepared, prepared-kept}
 use Rattle.iteration.proofs.Laws.{no-point, from-point}
 use Rattle.iteration.proofs.model.Statement.{statement}
@@ -13,7 +12,7 @@ factor-requires : tie.Need-factor-requires
 factor-requires c κs =
     let z = c .before .before .before .before in
     let p = z .before .before .before .before .before .before .before .before .pre in
-    (omega (arith, p .0 .few, p .0 .most), ap length (z .zero-rows .ensures), refl)
+    (omega (arith, p .0 .few, p .0 .most), refl, refl)
 
 generalized-cauchy-requires : tie.Need-generalized-cauchy-requires
 generalized-cauchy-requires c κs =

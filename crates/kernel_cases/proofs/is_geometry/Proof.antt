@@ -1,13 +1,12 @@
 -- `kernel_cases::is_geometry` is safe: the search for the Cauchy point leaves the model as it was. Assumes nothing.
-use mathlib.Core.Path.{refl, ap, _∙_}
+use mathlib.Core.Path.{refl, _∙_}
 use borrow.Author.Needs.{needs}
-use lib.ListN.{length}
 use Rattle.compact.proofs.Models.{modelled-kept, prepared, prepared-kept}
 use Rattle.kernel_cases.proofs.is_geometry.Statement.{statement}
 use Rattle.kernel_cases.proofs.is_geometry.Tie as tie
 
 factor-requires : tie.Need-factor-requires
-factor-requires c κs = (search needs, ap length (c .before .before .before .before .zero-rows .ensures), refl)
+factor-requires c κs = (search needs, refl, refl)
 
 generalized-cauchy-requires : tie.Need-generalized-cauchy-requires
 generalized-cauchy-requires c κs =

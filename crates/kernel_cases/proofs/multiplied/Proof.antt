@@ -1,13 +1,12 @@
 -- `kernel_cases::multiplied` is safe: the product is made with the factors of the pairs' block. Assumes nothing.
-use mathlib.Core.Path.{refl, ap}
+use mathlib.Core.Path.{refl}
 use borrow.Author.Needs.{needs}
-use lib.ListN.{length}
 use Rattle.compact.proofs.Models.{prepared}
 use Rattle.kernel_cases.proofs.multiplied.Statement.{statement}
 use Rattle.kernel_cases.proofs.multiplied.Tie as tie
 
 factor-requires : tie.Need-factor-requires
-factor-requires c κs = (search needs, ap length (c .before .before .before .before .zero-rows .ensures), refl)
+factor-requires c κs = (search needs, refl, refl)
 
 product-requires : tie.Need-product-requires
 product-requires c κs =

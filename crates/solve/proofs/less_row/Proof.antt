@@ -1,26 +1,26 @@
--- `solve::less_row` meets its contract; in its loop the first d columns past k are done. Assumes nothing.
-use Prim.Native.Nat.{_-_, _+_}
-use Rattle.definition.specs.Number.{minus, times}
-use Rattle.definition.specs.Solve.{entry, put, lessRow}
-use Rattle.area.proofs.Laws.{Looped, looped-none, laws}
+-- `solve::less_row` meets its contract; in its loop the first d columns past k are done, and row k is p. Assumes nothing.
+use mathlib.Core.Path.{refl}
+use Prim.Native.Nat.{_-_}
+use native.Mathlib.Omega.{arith}
+use Rattle.area.proofs.Laws.{laws}
+use Rattle.solve.proofs.Steps.{Lessening, lessening-none, lessening-more, lessening-done}
 use Rattle.solve.proofs.less_row.Statement.{statement}
 use Rattle.solve.proofs.less_row.Tie as tie
 
 abbrev Inv-loop : tie.InvT-loop
-Inv-loop a₀ n f k i columns d₀ a d = Looped (n - (k + 1)) (λ d c. put c i (k + 1 + d) (minus (entry c i (k + 1 + d)) (times f (entry c k (k + 1 + d))))) a₀ a d
+Inv-loop a₀ p n f k i columns d₀ a d = Lessening n f k i p a₀ a d
 
 abbrev μ-loop : tie.MeasureT-loop
-μ-loop a₀ n f k i columns d₀ a d = columns - d
+μ-loop a₀ p n f k i columns d₀ a d = columns - d
 
 loop-holds : tie.Need-loop-holds Inv-loop μ-loop
-loop-holds c = looped-none
+loop-holds c = lessening-none (c .pre .3)
 
 loop-again : tie.Need-loop-again Inv-loop μ-loop
-loop-again c = search laws
+loop-again c = lessening-more (c .before .before .before .loop .inv) (omega arith) (c .before .before .before .before .pre .0) refl
 
 returns : tie.Need-returns Inv-loop μ-loop
-unfolding lessRow
-returns c = search laws
+returns c = lessening-done (c .before .loop .inv) (omega arith) (c .before .before .pre .3)
 
 pub less-row-spec : {M : Type 1} → statement M
 less-row-spec =
@@ -31,8 +31,6 @@ less-row-spec =
     (λ c. search laws)
     (λ c. search laws)
     loop-holds
-    (λ c. search laws)
-    (λ c. search laws)
     (λ c. search laws)
     (λ c. search laws)
     (λ c. search laws)

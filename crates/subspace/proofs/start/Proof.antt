@@ -1,6 +1,8 @@
 -- `subspace::start` meets its contract: the first i rows are made. Assumes nothing.
 use Prim.Native.Nat.{_-_}
+use mathlib.Core.Path.{ap}
 use native.Mathlib.Omega.{arith}
+use lib.ListN.{replicate}
 use Rattle.definition.specs.Number.{zero64, negZero}
 use Rattle.definition.specs.Compact.{padded, zeroRow}
 use Rattle.compact.proofs.Laws.{Padding, padding-none, laws}
@@ -8,13 +10,13 @@ use Rattle.subspace.proofs.start.Statement.{statement}
 use Rattle.subspace.proofs.start.Tie as tie
 
 abbrev Inv-loop : tie.InvT-loop
-Inv-loop size r a₀ i₀ a i = Padding zeroRow size (λ i. padded zero64 size (λ j. negZero)) a i
+Inv-loop size r z i₀ a i = Padding zeroRow size (λ i. padded zero64 size (λ j. negZero)) a i
 
 abbrev μ-loop : tie.MeasureT-loop
-μ-loop size r a₀ i₀ a i = size - i
+μ-loop size r z i₀ a i = size - i
 
 loop-holds : tie.Need-loop-holds Inv-loop μ-loop
-loop-holds c = padding-none (omega arith) (c .zero-rows .ensures)
+loop-holds c = padding-none (omega arith) (ap (replicate 32) (c .zeros .ensures))
 
 loop-again : tie.Need-loop-again Inv-loop μ-loop
 loop-again c = search laws
