@@ -8,18 +8,18 @@ use mathlib.Core.List.{List}
 use mathlib.Core.Option.{Option, none, some}
 use lib.Dec.{ltb}
 use lib.ListN.{length}
-use Rattle.definition.specs.Problem.{Setup, Refusal, Check, refuse, when, _then_, validate}
+use Rattle.definition.specs.Problem.{Setup, Refusal, Check, refuse, when, validate}
 use Rattle.definition.specs.Machine.{Reply, Question, checkDue, question, unreported}
 use Rattle.definition.specs.Log.{entryWords}
-use Rattle.definition.specs.Record.{Reading, plainRefusal, checkArea, readRecord}
+use Rattle.definition.specs.Record.{Reading, plainRefusal, readRecord}
 use Rattle.definition.specs.History.{Call, Answer, refusalsOf, entryRefusals, among, outputShort, restoredAnswer}
 use Rattle.definition.proofs.Tests.{by-test}
 use Rattle.definition.proofs.Numbered.{Numbered, AnswerNumbered, ReadNumbered, tested, both, opening, due, short, record-numbered, restores}
 use Rattle.driver.specs.Replies.{isHeld}
 use Rattle.lbfgsb.specs.Words.{Words, lengths, setupOf, machineIn}
-use Rattle.lbfgsb.specs.Did.{Zeroed, Started, Restored, Restores, Replied, TakenBack, TakesReplies, TakesHeld, TakesBack, repliesLeft, refusedBy, checkAt, checkBack, questionOf, questionAnswer, reportAnswer, Read, Counted, entryKept, shortLog, entryAnswer, recordIn, saveAnswer}
+use Rattle.lbfgsb.specs.Did.{Zeroed, Started, Restored, Restores, Replied, TakenBack, TakesReplies, TakesHeld, TakesBack, repliesLeft, refusedBy, checkBack, questionOf, questionAnswer, reportAnswer, Read, Counted, entryKept, shortLog, entryAnswer, recordIn, saveAnswer}
 use Rattle.lbfgsb.specs.Chain.{Chain, Answered}
-use Rattle.lbfgsb.proofs.Trace.{Called, by-start, by-restore, by-reply, by-take-back, by-question, by-report, by-replies, by-entry, by-save, did}
+use Rattle.lbfgsb.proofs.Trace.{Called, by-start, by-restore, by-reply, by-take-back, by-question, by-report, by-replies, by-entry, by-save}
 
 -- ---- the numbers of an answer
 

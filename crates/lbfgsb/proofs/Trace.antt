@@ -3,7 +3,7 @@
 -- How to read it. specs/Chain.antt has every word of the claims; the history is document 01's book, definition/specs/History.antt.
 -- 1. `Called` is what a caller learns of the nine exported functions, and no more: each case is built of the function's own generated contract (`Learnt`),
 --    with the words before, the words after and the answer read off its arguments and its result. `exported` holds the theorems that the nine functions
---    meet these contracts. So no contract can be weakened without a refusal here.
+--    meet these contracts. So no contract can be weakened below what the claims rest on without a refusal here.
 --    A shared slice has one value throughout a call, so a read leaves the words as they were; a function that is not lent the log leaves it as it was.
 -- 2. `every-list` is the claim from words that hold no fit, `every-opened-list` from any words, for a list that begins with an accepted opening or reading in.
 --    The induction stands in Lists, over any relation of one call; two facts of `Called` are put there, `did` and `opening`.
