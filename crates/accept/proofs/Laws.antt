@@ -13,7 +13,7 @@ use Rattle.definition.specs.Machine as M
 use Rattle.definition.specs.Machine.{Machine, checkDue}
 use Rattle.definition.specs.Driver.{run, answer}
 use Rattle.definition.specs.Log.{entryWords, logWords}
-use Rattle.definition.proofs.Entries.{log-more}
+use Rattle.definition.proofs.Entries.{log-more, words-some}
 use Rattle.fit.specs.State.{machineOf}
 use Rattle.fit.specs.declared.Fit.{Fit}
 use Rattle.driver.specs.declared.Reply.{Reply}
@@ -21,7 +21,6 @@ use Rattle.held.specs.Words.{words, Held}
 use Rattle.accept.specs.Moves.{written, Advances}
 use Rattle.held.proofs.Laws.{Reached, reached-held, held-reached}
 use Rattle.replay.specs.Taken.{replied}
-use Rattle.replay.proofs.Entries.{words-some}
 
 -- ---- the log
 
@@ -95,4 +94,4 @@ unfolding logWords
 held-advanced {r} {t} {f} {a} {b} {l} h d w z k =
     reached-held (reached-advanced (held-reached h) d z k) (k .mark)
     (rw (written-length (t .words) (entryWords r) l w) (omega (arith, k .words)))
-    (rw (k .words) (logged (t .words) l (entryWords r) (h .room)) ∙ ap (λ (q : List ℕ). q ++ entryWords r) (h .log))
+    (rw (k .words) (logged (t .words) l (entryWords r) (h .stands .room)) ∙ ap (λ (q : List ℕ). q ++ entryWords r) (h .stands .log))

@@ -1,11 +1,13 @@
 -- The counts: each step of the machine raises at most one question, and counts it. From that, by induction on the replies, nfev and nit are the
--- replies and the open question, njev the gradients completed, nfev and nit within their budgets. Assumes nothing.
+-- replies and the open question, njev the gradients completed, nfev and nit within their budgets; and, accepted or not, no count is above the number
+-- of replies by more than one. Assumes nothing.
 use Prim.Native.Nat.{ℕ, _+_, _≤_}
 use native.Mathlib.Omega.{arith}
 use mathlib.Core.Path.{_≡_, refl, sym, ap, _∙_}
 use mathlib.Core.Bool.{Bool, true, false, cond, false≢true}
 use mathlib.Core.List.{List, [], _∷_, map}
 use lib.Dec.{eqb}
+use lib.ListN.{length}
 use lib.Ieee.{Float}
 use borrow.Author.Tests.{ltb-true, leb-false, eqb-true}
 use Rattle.definition.specs.Number.{toFloat}
@@ -16,7 +18,7 @@ use Rattle.definition.specs.Gradient.{probesAt}
 use Rattle.definition.specs.Machine.{Reply, Place, Phase, Machine, inPhase, ending, kindOf, suits, takes}
 use Rattle.definition.specs.Driver.{withGradient, valued, learn, move, begin, run}
 use Rattle.definition.specs.Replies.{Accepted, Due, isValue, isNotice, isFailure, countOf, openOf}
-use Rattle.definition.specs.Facts.{isGradient, failedOf, unprobedFrom, lastAsked, gradientsCompleted, Counted}
+use Rattle.definition.specs.Facts.{isGradient, failedOf, unprobedFrom, lastAsked, completesGradient, gradientsCompleted, Counted}
 use Rattle.definition.proofs.Accepted.{accepted-in-limits, due-taken}
 use Rattle.definition.proofs.Turns.{Turn, turn, asking, gathered, started, Descends, descend-leads, Gathers, complete-leads, from-leads, probed-leads}
 
@@ -189,6 +191,25 @@ module _ (s : Setup) where
 
   pub limits-stay : (rs : List Reply) → Due s rs → run s rs .limits ≡ limitsOf s
   limits-stay rs d = stay rs d .1
+
+-- each reply raises each count by at most one, whether or not the setup is accepted
+pub record Few (most : ℕ) (k : Counters) : Type 0 where
+  pub nit : k .nit ≤ most
+  pub nfev : k .nfev ≤ most + 1
+  pub njev : k .njev ≤ most
+  pub drawn : k .drawn ≤ most + 1
+
+one-most : (b : Bool) → cond b 1 0 ≤ 1
+one-most true = omega arith
+one-most false = omega arith
+
+pub counts-few : (s : Setup) (rs : List Reply) → Due s rs → Few (length rs) (run s rs .counters)
+unfolding run begin
+counts-few s [] d = omega arith
+counts-few s (r ∷ rs) d =
+    let m = run s rs in
+    let n = answered (turn m r) (due-taken m r (d .0)) .raised .charged in
+    omega (arith, counts-few s rs (d .1), n, one-open (run s (r ∷ rs) .phase), one-most (completesGradient m r))
 
 record Tally (s : Setup) (rs : List Reply) : Type 0 where
   counted : Counted s rs

@@ -86,6 +86,19 @@ pub log-more : (r : Reply) (rs : List Reply) → length (logWords (r ∷ rs)) �
 unfolding logWords
 log-more r rs = simp length-append (omega arith)
 
+-- each entry has its kind, so there are no more entries than words
+pub words-some : (r : Reply) → 1 ≤ length (entryWords r)
+words-some (Reply.value v) = omega arith
+words-some (Reply.gradient ws) = omega arith
+words-some Reply.notSupplied = omega arith
+words-some Reply.goOn = omega arith
+words-some Reply.stop = omega arith
+words-some Reply.failure = omega arith
+
+pub entries-most : (rs : List Reply) → length rs ≤ length (logWords rs)
+entries-most [] = omega arith
+entries-most (r ∷ rs) = omega (arith, entries-most rs, log-more r rs, words-some r)
+
 -- the newest entry stands last
 log-last : (r : Reply) (rs : List Reply) (rest : List ℕ) → logWords (r ∷ rs) ++ rest ≡ logWords rs ++ (entryWords r ++ rest)
 unfolding logWords

@@ -3,12 +3,13 @@
 use Prim.Native.Nat.{ℕ}
 use mathlib.Core.Path.{_≡_, refl}
 use mathlib.Core.List.{List, [], _∷_}
-use mathlib.Core.Option.{none}
+use mathlib.Core.Option.{Option, none, some}
+use lib.Ieee.{Float}
 use Rattle.definition.specs.Number.{zero64, one64, toWord}
-use Rattle.definition.specs.Machine.{Reply}
+use Rattle.definition.specs.Machine.{Reply, Question}
 use Rattle.definition.specs.Record.{Lengths, Reading, readRecord, recordBytes}
 use Rattle.definition.specs.History.{Call, Answer, History, historyAfter, historyAnswers}
-use Rattle.definition.specs.Starred.{parabola, parabolaReplies, four, eight, reported, valueAt, setup}
+use Rattle.definition.specs.Starred.{parabola, parabolaReplies, four, eight, reported, setup}
 use Rattle.definition.proofs.Opened.{opened}
 
 abbrev refused : ℕ → ℕ → ℕ → Answer
@@ -16,6 +17,9 @@ refused number a b = Answer.refused (record { number = number; first = a; second
 
 abbrev lengths : ℕ → ℕ → Lengths
 lengths area log = record { area = area; log = log }
+
+abbrev valueAt : Float → Option Question
+valueAt x = some (record { kind = 1; point = x ∷ [] })
 
 -- each call with its answer; the area needs 496 words, the entries of the case are 9
 infixl 20 _gives_

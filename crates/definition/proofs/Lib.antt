@@ -22,6 +22,7 @@ pub mod Turns
 pub mod Leads
 -- counts, bound, statuses, sizes
 pub mod Counts
+pub mod Probed
 pub mod Bound
 pub mod Statuses
 pub mod Sizes
@@ -41,6 +42,7 @@ pub mod Entries
 pub mod RoundTrip
 -- history
 pub mod Numbered
+pub mod Plenty
 pub mod Histories
 pub mod TakenBack
 pub mod Ordered

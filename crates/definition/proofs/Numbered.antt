@@ -18,7 +18,7 @@ use Rattle.definition.specs.Machine.{Reply, Machine, Question, takes, ch
 use Rattle.definition.specs.Driver.{run, begin}
 use Rattle.definition.specs.Log.{entryWords, logWords, entryOf, Entries, admitDue, admit, nextEntry, readEntries, entriesOf}
 use Rattle.definition.specs.Record.{Lengths, Reading, setupIn, setupLength, wordsOf, recordWords, readingOf, checkArea, sameSums, malformed, checkWords, unlessRefused, readWords, framed, readRecord}
-use Rattle.definition.specs.History.{Call, Answer, History, refusalsOf, entryRefusals, among, logShort, outputShort, checkQuestion, entryAt, refusal, answerUnless, restoredAnswer, historyAnswer}
+use Rattle.definition.specs.History.{Call, Answer, History, refusalsOf, among, logShort, outputShort, checkQuestion, entryAt, refusal, answerUnless, restoredAnswer, historyAnswer}
 use Rattle.definition.specs.Programs.{mostBytes, plenty, readInput}
 use Rattle.definition.proofs.Tests.{by-test, holds, both-hold}
 
@@ -61,7 +61,7 @@ pub data Numbered (row : List ℕ) : Check → Type 0 where
   passes : Numbered row none
   refuses : {r : Refusal} → among (r .number) row ≡ true → Numbered row (some r)
 
-wider : (a b : List ℕ) (c : Check) → all-of (λ (i : ℕ). among i b) a ≡ true → Numbered a c → Numbered b c
+pub wider : (a b : List ℕ) (c : Check) → all-of (λ (i : ℕ). among i b) a ≡ true → Numbered a c → Numbered b c
 wider a b none e h = Numbered.passes
 wider a b (some r) e (Numbered.refuses h) = Numbered.refuses (of-row (λ (i : ℕ). among i b) a (r .number) e h)
 
@@ -84,7 +84,7 @@ if-given check (some a) h = h a
 
 -- ---- a setup
 
-abbrev setupRow : List ℕ
+abbrev pub setupRow : List ℕ
 setupRow = 1 ∷ 2 ∷ 3 ∷ 4 ∷ 5 ∷ 6 ∷ 7 ∷ 8 ∷ 9 ∷ 10 ∷ []
 
 side : (n : ℕ) (s : List Float) → Numbered setupRow (checkSide n s)
@@ -128,9 +128,9 @@ limit most detail k = tested (ltb most k) 10 detail 0 refl
 limited : (most detail : ℕ) (o : Option ℕ) → Numbered setupRow (given (atMost most detail) o)
 limited most detail o = if-given (atMost most detail) o (limit most detail)
 
-setup : (s : Setup) → Numbered setupRow (validate s)
+pub setup-numbered : (s : Setup) → Numbered setupRow (validate s)
 unfolding validate checkCommon checkOptions checkLimits
-setup s =
+setup-numbered s =
     let common =
     both (given (positive 1) (s .maxiter)) (given (positive 2) (s .maxfev) then given (finitePositive 1) (s .tol)) (count 1 (s .maxiter))
     (both (given (positive 2) (s .maxfev)) (given (finitePositive 1) (s .tol)) (count 2 (s .maxfev)) (above 1 (s .tol))) in
@@ -147,15 +147,16 @@ setup s =
 
 pub opening : (z : Lengths) (s : Setup) → Numbered (refusalsOf (Call.start s)) (validate s then checkArea z s)
 opening z s =
-    both (validate s) (checkArea z s) (wider setupRow (refusalsOf (Call.start s)) (validate s) refl (setup s)) (tested (ltb (z .area) (areaNeeded s)) 11 (areaNeeded s) 0 refl)
+    both (validate s) (checkArea z s) (wider setupRow (refusalsOf (Call.start s)) (validate s) refl (setup-numbered s)) (tested (ltb (z .area) (areaNeeded s)) 11 (areaNeeded s) 0 refl)
 
 -- ---- a record
 
 abbrev recordRow : List ℕ
 recordRow = refusalsOf (Call.restore [])
 
+-- at an entry
 abbrev entryRow : List ℕ
-entryRow = entryRefusals (Call.restore [])
+entryRow = 17 ∷ 12 ∷ []
 
 abbrev Entered : Entries → Type 0
 Entered (Entries.kept rs) = Unit {0}

@@ -54,18 +54,6 @@ refusalsOf Call.replies = []
 refusalsOf (Call.entry k room) = 12 ∷ 19 ∷ []
 refusalsOf (Call.save room) = 12 ∷ 19 ∷ []
 
--- those at an entry, of a record or of an altered log: they leave the area all zero
-abbrev pub entryRefusals : Call → List ℕ
-entryRefusals (Call.start s) = []
-entryRefusals (Call.restore bs) = 17 ∷ 12 ∷ []
-entryRefusals (Call.reply r) = []
-entryRefusals (Call.takeBack j) = 17 ∷ []
-entryRefusals (Call.question room) = []
-entryRefusals (Call.report room) = []
-entryRefusals Call.replies = []
-entryRefusals (Call.entry k room) = []
-entryRefusals (Call.save room) = []
-
 abbrev pub among : ℕ → List ℕ → Bool
 among k [] = false
 among k (x ∷ xs) = eqb k x || among k xs

@@ -1,8 +1,9 @@
--- Document 01's starred cases as one list of statements, and beside it the orders that it warns of.
-use Prim.Native.Nat.{ℕ, _^_}
+-- Document 01's starred cases as one list of statements, and beside it the orders that it warns of. A case of a fit is stated as what the report program
+-- prints, or the C entry returns, for the record of its setup and replies: so the setup is accepted and each reply was due.
+use Prim.Native.Nat.{ℕ}
 use mathlib.Core.Path.{_≡_}
 use mathlib.Core.Bool.{true, false}
-use mathlib.Core.List.{List, [], _∷_}
+use mathlib.Core.List.{List, [], _∷_, map}
 use mathlib.Core.Option.{Option, none, some}
 use lib.IntN.{pos, negsuc}
 use lib.ListN.{replicate, drop}
@@ -13,10 +14,9 @@ use Rattle.definition.specs.Problem.{Setup, Bounds, Scheme, refuse, vali
 use Rattle.definition.specs.Solve.{Matrix, pivotOf, solve}
 use Rattle.definition.specs.Compact.{Compact, noPairs, update}
 use Rattle.definition.specs.Geometry.{Break, inserted}
-use Rattle.definition.specs.Machine.{Reply, Question, Report, question, report}
-use Rattle.definition.specs.Driver.{run}
-use Rattle.definition.specs.Record.{recordBytes}
-use Rattle.definition.specs.Programs.{Printed, printed}
+use Rattle.definition.specs.Machine.{Reply, Report}
+use Rattle.definition.specs.Record.{bytes, recordBytes}
+use Rattle.definition.specs.Programs.{Printed, printed, Returned, returned}
 
 -- every statement of a list
 abbrev pub All : List (Type 0) → Type 0
@@ -73,8 +73,9 @@ abbrev pub reported : ℕ → ℕ → ℕ → ℕ → Float → Float → Report
 reported status nit nfev njev f x =
     record { status = status; point = x ∷ []; value = f; nit = nit; nfev = nfev; njev = njev; drawn = nfev }
 
-abbrev pub valueAt : Float → Option Question
-valueAt x = some (record { kind = 1; point = x ∷ [] })
+-- what the C entry returns where a value is asked at x: 1, and the bytes of x
+abbrev pub valueAsked : Float → Returned
+valueAsked x = record { number = 1; output = bytes (map toWord (x ∷ [])) }
 
 -- ---- x² / 2, from 4, between -8 and 8
 
@@ -124,9 +125,10 @@ unsupplied = Reply.notSupplied ∷ Reply.value (toWord zero64) ∷ []
 
 abbrev pub starred : List (Type 0)
 starred =
-    -- f = x² / 2: the report program on the record; the second value is asked at 0
+    -- f = x² / 2: what the report program prints, as the numbers of its six lines; that `textOf` of them is document 01's text, byte by byte, is
+    -- `starred-text` of crate `text`, which defines the text. The second value is asked at 0
     (printed (recordBytes parabola parabolaReplies) ≡ Printed.lines (reported 1 1 2 2 zero64 zero64))
-    ∷ (question (run parabola (drop 3 parabolaReplies)) ≡ valueAt zero64)
+    ∷ (returned 8 (recordBytes parabola (drop 3 parabolaReplies)) ≡ valueAsked zero64)
     -- empty x0: 1; both bounds +inf: 6; lower 2, upper 1: 5
     ∷ (validate (setup [] none none none) ≡ refuse 1 0 0)
     ∷ (validate (boxed zero64 infinity infinity) ≡ refuse 6 0 0)
@@ -135,11 +137,11 @@ starred =
     ∷ (validate (setup (replicate 64 one64) none none none) ≡ none)
     ∷ (validate (setup (replicate 65 one64) none none none) ≡ refuse 10 1 0)
     -- start 5, box 0 to 2: first question at 2; first reply NaN: status 6, counts 0, 1, 0
-    ∷ (question (run (boxed five zero64 two64) []) ≡ valueAt two64)
-    ∷ (report (run (boxed five zero64 two64) (Reply.value (toWord nan) ∷ [])) ≡ reported 6 0 1 0 nan two64)
+    ∷ (returned 8 (recordBytes (boxed five zero64 two64) []) ≡ valueAsked two64)
+    ∷ (printed (recordBytes (boxed five zero64 two64) (Reply.value (toWord nan) ∷ [])) ≡ Printed.lines (reported 6 0 1 0 nan two64))
     -- maxfev 1, n = 1, open box, value 0, gradient not supplied: status 4, njev 0; with lower = upper: status 1, njev 1
-    ∷ (report (run (frugal none) unsupplied) ≡ reported 4 0 1 0 zero64 five)
-    ∷ (report (run (frugal (between five five)) unsupplied) ≡ reported 1 0 1 1 zero64 five)
+    ∷ (printed (recordBytes (frugal none) unsupplied) ≡ Printed.lines (reported 4 0 1 0 zero64 five))
+    ∷ (printed (recordBytes (frugal (between five five)) unsupplied) ≡ Printed.lines (reported 1 0 1 1 zero64 five))
     -- s = 2 ^ -52, y = 1: pair dropped; s = 2 ^ -51: kept, theta 2 ^ 51
     ∷ (onePair half^52 ≡ noPairs)
     ∷ (onePair half^51 ≡ record { pairs = record { s = half^51 ∷ []; y = one64 ∷ [] } ∷ []; theta = fin false 1 (pos 51); oldest = 0 })
@@ -165,15 +167,15 @@ break i = record { time = one64; coordinate = i }
 abbrev pub orders : List (Type 0)
 orders =
     -- between a trial's value and its gradient the old point and value are held, and so they are while the gradient is probed
-    (report (run parabola (drop 2 parabolaReplies)) ≡ reported 0 0 2 1 eight four)
-    ∷ (report (run parabola (Reply.notSupplied ∷ drop 2 parabolaReplies)) ≡ reported 0 0 3 1 eight four)
+    (printed (recordBytes parabola (drop 2 parabolaReplies)) ≡ Printed.lines (reported 0 0 2 1 eight four))
+    ∷ (printed (recordBytes parabola (Reply.notSupplied ∷ drop 2 parabolaReplies)) ≡ Printed.lines (reported 0 0 3 1 eight four))
     -- a pair that is not accepted costs no old one
     ∷ (update 1 1 fullMemory (half^52 ∷ []) (one64 ∷ []) ≡ fullMemory)
     -- a sum starts at -0
     ∷ (dot 1 (zero64 ∷ []) (minusOne ∷ []) ≡ fin true 0 (pos 0))
     -- the iteration budget comes before convergence, and stop before both
-    ∷ (report (run oneIteration parabolaReplies) ≡ reported 3 1 2 2 zero64 zero64)
-    ∷ (report (run oneIteration (Reply.stop ∷ drop 1 parabolaReplies)) ≡ reported 5 1 2 2 zero64 zero64)
+    ∷ (printed (recordBytes oneIteration parabolaReplies) ≡ Printed.lines (reported 3 1 2 2 zero64 zero64))
+    ∷ (printed (recordBytes oneIteration (Reply.stop ∷ drop 1 parabolaReplies)) ≡ Printed.lines (reported 5 1 2 2 zero64 zero64))
     -- lower > upper comes before the bounds that admit no coordinate, and the lower side's NaN before the upper's
     ∷ (validate (boxed zero64 infinity negInfinity) ≡ refuse 5 0 0)
     ∷ (validate (setup (zero64 ∷ zero64 ∷ []) (some (record { lower = zero64 ∷ nan ∷ []; upper = nan ∷ zero64 ∷ [] })) none none) ≡ refuse 4 1 0)

@@ -1,10 +1,10 @@
--- Laws of the test for a held fit: what it gives, when it passes, and that the fit of an accepted setup passes it. Assumes nothing.
-use Prim.Native.Nat.{ℕ, zero, suc, _+_, _*_, _≤_, _<_}
+-- Laws of the test for a held fit: what it gives, when it passes, and that the fit of a setup and replies that were due passes it. Assumes nothing.
+use Prim.Native.Nat.{ℕ, zero, suc, _+_, _≤_, _<_}
 use native.Mathlib.Omega.{arith}
 use native.Mathlib.Nat.{mul-le-mul}
 use mathlib.Core.Path.{_≡_, refl, sym, ap, _∙_, subst}
-use mathlib.Core.Bool.{Bool, true, false, cond, false≢true, _&&_}
-use mathlib.Core.List.{List, [], _∷_}
+use mathlib.Core.Bool.{Bool, true, false, false≢true, _&&_}
+use mathlib.Core.List.{List}
 use lib.ListN.{length, replicate}
 use lib.Ieee as Ieee
 use lib.Ieee.{Float}
@@ -17,12 +17,11 @@ use Rattle.definition.specs.Machine as M
 use Rattle.definition.specs.Driver.{run}
 use Rattle.definition.specs.Log.{logWords}
 use Rattle.definition.specs.Replies.{Accepted, Due}
-use Rattle.definition.specs.Facts.{gradientsCompleted, completesGradient}
 use Rattle.definition.proofs.Accepted.{accepted-in-limits}
-use Rattle.definition.proofs.Counts.{terms-stay, counted}
-use Rattle.definition.proofs.Bound.{replies-bounded}
+use Rattle.definition.proofs.Counts.{terms-stay, counts-few}
+use Rattle.definition.proofs.Probed.{InRange, probe-in-range}
 use Rattle.definition.proofs.Lengths.{log-length}
-use Rattle.definition.proofs.Questions.{FactsIn, at-question}
+use Rattle.definition.proofs.Entries.{entries-most}
 use Rattle.area.specs.Area.{view, X0, Lower, Upper}
 use Rattle.problem.specs.Setups.{placesIn, setupIn}
 use Rattle.counters.specs.Counts.{countersOf}
@@ -137,68 +136,64 @@ shape-again h g size k n m s =
 pub marked-machine : (t : Fit) (a b : List Float) → Sound (t .shape) (length a) → Marks (t .shape) a b → machineOf t b ≡ machineOf t a
 marked-machine t a b s h = model-same t s (λ q l. h .kept q (omega arith)) (λ q k l. h .kept q (omega arith))
 
--- ---- the fit of an accepted setup
+-- ---- the fit of a setup and replies that were due
 
-one-most : (b : Bool) → cond b 1 0 ≤ 1
-one-most true = omega arith
-one-most false = omega arith
-
--- a reply completes at most one gradient
-pub completed-most : (s : Setup) (rs : List M.Reply) → gradientsCompleted s rs ≤ length rs
-unfolding gradientsCompleted
-completed-most s [] = omega arith
-completed-most s (r ∷ rs) = omega (arith, completed-most s rs, one-most (completesGradient (run s rs) r))
-
--- the coordinate of an open probe is below n
-facts-within : (m : M.Machine) (p : Phase) → FactsIn m (phaseOf p) → Within p (m .terms .n)
-facts-within m (Value w) f = tt
-facts-within m (Gradient w) f = tt
-facts-within m (Probe w i s) f = f .1
-facts-within m Notice f = tt
-facts-within m (Ended t) f = tt
-
--- no count is above the number of replies or its budget
+-- no count is above the number of replies and one
 counts-small :
-    (t : Fit) (s : Setup) (rs : List M.Reply) → Accepted s → Due s rs → countersOf (t .counters) ≡ run s rs .counters
+    (t : Fit) (s : Setup) (rs : List M.Reply) → Due s rs → countersOf (t .counters) ≡ run s rs .counters → length rs < mostWords
     → Small (t .counters) × (t .counters .njev < mostCounted)
-counts-small t s rs c d e =
+counts-small t s rs d e h =
     let nit : t .counters .nit ≡ run s rs .counters .nit = ap (λ (k : C.Counters). k .nit) e in
     let njev : t .counters .njev ≡ run s rs .counters .njev = ap (λ (k : C.Counters). k .njev) e in
     let drawn : t .counters .drawn ≡ run s rs .counters .drawn = ap (λ (k : C.Counters). k .drawn) e in
-    omega (arith, counted s rs c d, accepted-in-limits s c, completed-most s rs, replies-bounded s rs c d)
+    omega (arith, counts-few s rs d)
 
-log-few : (s : Setup) (rs : List M.Reply) → Accepted s → Due s rs → length (logWords rs) < mostWords
+-- the coordinate of an open probe is below n
+range-within : (p : Phase) (n : ℕ) → InRange (phaseOf p) n → Within p n
+range-within (Value w) n h = tt
+range-within (Gradient w) n h = tt
+range-within (Probe w i s) n h = h
+range-within Notice n h = tt
+range-within (Ended t) n h = tt
+
+-- with a log that the test lets pass it passes the test, whether or not the setup is accepted
+pub few-ready : (t : Fit) (size : ℕ) (a : List Float) (s : Setup) (rs : List M.Reply) → Due s rs → machineOf t a ≡ run s rs → shapeHeld (t .shape) size ≡ true
+    → placesIn (t .options) ≡ t .shape .m → t .entries ≡ length rs → t .words ≡ length (logWords rs) → t .words < mostWords → isReady t size ≡ true
+few-ready t size a s rs d e h p n w few =
+    let k = shape-facts (t .shape) size h in
+    let entries : t .entries < mostWords = omega (arith, entries-most rs) in
+    let small = counts-small t s rs d (ap (λ (m : M.Machine). m .counters) e) (omega arith) in
+    facts-ready t size
+    (record {
+      ready = record { sound = shape-sound k; small = small .0; njev = small .1; n = k .n };
+      within = range-within (t .phase) (t .shape .n) (subst (λ (m : M.Machine). InRange (m .phase) (m .terms .n)) (sym e) (probe-in-range s rs d));
+      shape = h;
+      positive = k .positive;
+      some = k .some;
+      places = p;
+      area = k .area;
+      entries = entries;
+      words = few;
+    })
+
+-- the log of an accepted setup is one
+pub log-few : (s : Setup) (rs : List M.Reply) → Accepted s → Due s rs → length (logWords rs) < mostWords
 log-few s rs c d =
     let l = accepted-in-limits s c in
     let n : 3 + dimension s ≤ 67 = omega (arith, l .coordinates .1) in
     omega (arith, log-length s rs c d, mul-le-mul n (l .maxfev .1), l .maxiter .1)
 
--- the fit of an accepted setup and replies that were due passes the test
 pub run-ready : (t : Fit) (size : ℕ) (a : List Float) (s : Setup) (rs : List M.Reply) → Accepted s → Due s rs → machineOf t a ≡ run s rs
     → setupIn (t .options) (view a (t .shape .n) X0) (view a (t .shape .n) Lower) (view a (t .shape .n) Upper) ≡ s
     → Sound (t .shape) size → areaNeeded s ≤ size → t .entries ≡ length rs → t .words ≡ length (logWords rs) → isReady t size ≡ true
 run-ready t size a s rs c d e o h z n w =
     let l = accepted-in-limits s c in
-    let replies = replies-bounded s rs c d in
     let terms = ap (λ (m : M.Machine). m .terms) e ∙ terms-stay s rs d in
     let coordinates : t .shape .n ≡ dimension s = ap (λ (x : Terms). x .n) terms in
     let places : t .shape .m ≡ maxcorOf s = ap (λ (x : Terms). x .maxcor) terms in
     let area : areaWords (t .shape .n) (t .shape .m) ≤ size = rw (coordinates, places) z in
     let shape : ShapeFacts (t .shape) size = omega (arith, h, l) in
-    let small = counts-small t s rs c d (ap (λ (m : M.Machine). m .counters) e) in
-    let facts = subst (λ (m : M.Machine). FactsIn m (m .phase)) (sym e) (at-question s c rs d .facts) in
-    facts-ready t size
-    (record {
-      ready = record { sound = h; small = small .0; njev = small .1; n = shape .n };
-      within = facts-within (machineOf t a) (t .phase) facts;
-      shape = facts-shape (t .shape) size shape;
-      positive = shape .positive;
-      some = shape .some;
-      places = ap maxcorOf o ∙ sym places;
-      area = area;
-      entries = omega (arith, l);
-      words = omega (arith, log-few s rs c d);
-    })
+    few-ready t size a s rs d e (facts-shape (t .shape) size shape) (ap maxcorOf o ∙ sym places) n w (omega (arith, log-few s rs c d))
 
 -- ---- an area of zeros
 

@@ -30,7 +30,8 @@ use Rattle.fit.specs.declared.Fit.{Fit}
 use Rattle.question.specs.Reports.{written, reportOf}
 use Rattle.question.specs.declared.Outcome.{Outcome}
 use Rattle.driver.proofs.Laws.{ready-facts, held-ready}
-use Rattle.lbfgsb.specs.Words.{words, Held, asked, told}
+use Rattle.lbfgsb.specs.Words.{words, Held}
+use Rattle.lbfgsb.specs.Bridge.{asked, told}
 use Rattle.lbfgsb.specs.declared.Answer.{Answer}
 use Rattle.lbfgsb.specs.declared.Answer.the-variants as A
 use Rattle.lbfgsb.specs.declared.Asked.{Asked}
@@ -135,7 +136,7 @@ fit-ended m room r out out′ e h = rw e h
 
 module _ (a : List Float) (l : List ℕ) where
   small : (d : Reading) (f : Fit) → Taken d (A.Kept f) a l → f .shape .n ≤ 64
-  small (Reading.accepted s rs) f h = omega (arith, ready-facts f (length a) (held-ready f a (h .test)) .ready)
+  small (Reading.accepted s rs) f h = omega (arith, ready-facts f (length a) (held-ready f a (h .stands .test)) .ready)
   small (Reading.refused c) f h = absurd h
   small (Reading.refusedAtEntry c) f h = absurd h
 

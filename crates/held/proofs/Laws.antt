@@ -74,15 +74,17 @@ pub reached-held : {t : Fit} {a : List Float} {l : List ℕ} {s : Setup} {rs : L
     → Reached t a s rs → marked (t .shape) a ≡ true → t .words ≤ length l → take (t .words) l ≡ logWords rs → Held (words t a l) s rs
 reached-held {t} {a} h k r e = record {
   accepted = h .accepted;
-  due = h .due;
-  test = is-held t a (reached-ready h) k;
-  setup = h .setup;
-  is = h .is;
-  settled = h .settled;
-  entries = h .entries;
-  words = h .words;
-  room = r;
-  log = e;
+  stands = record {
+    due = h .due;
+    test = is-held t a (reached-ready h) k;
+    setup = h .setup;
+    is = h .is;
+    settled = h .settled;
+    entries = h .entries;
+    words = h .words;
+    room = r;
+    log = e;
+  };
 }
 
 -- the terms after any replies are the setup's
@@ -95,17 +97,18 @@ needed-is t a s rs d e = ap (λ (k : Terms). areaWords (k .n) (k .maxcor)) (term
 -- what is held was reached
 pub held-reached : {t : Fit} {a : List Float} {l : List ℕ} {s : Setup} {rs : List M.Reply} → Held (words t a l) s rs → Reached t a s rs
 held-reached {t} {a} {s = s} {rs = rs} h =
-    let f = ready-facts t (length a) (held-ready t a (h .test)) in
+    let k = h .stands in
+    let f = ready-facts t (length a) (held-ready t a (k .test)) in
     record {
       accepted = h .accepted;
-      due = h .due;
-      setup = h .setup;
-      is = h .is;
+      due = k .due;
+      setup = k .setup;
+      is = k .is;
       sound = f .ready .sound;
-      area = rw (← needed-is t a s rs (h .due) (h .is)) (f .area);
-      settled = h .settled;
-      entries = h .entries;
-      words = h .words;
+      area = rw (← needed-is t a s rs (k .due) (k .is)) (f .area);
+      settled = k .settled;
+      entries = k .entries;
+      words = k .words;
     }
 
 -- a setup just opened is reached by no replies

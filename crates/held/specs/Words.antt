@@ -42,9 +42,8 @@ machineIn w = machineOf (w .state) (w .area)
 abbrev pub logIn : Words → List ℕ
 logIn w = take (w .state .words) (w .log)
 
--- the words hold the fit of the setup s after the replies rs
-pub record Held (w : Words) (s : P.Setup) (rs : List M.Reply) : Type 0 where
-  pub accepted : Accepted s
+-- the words hold the machine of the setup s after the replies rs, each due when it was given; whether s is accepted is not said
+pub record Stands (w : Words) (s : P.Setup) (rs : List M.Reply) : Type 0 where
   pub due : Due s rs
   pub test : isHeld (w .state) (w .area) ≡ true
   pub setup : setupOf w ≡ s
@@ -54,3 +53,8 @@ pub record Held (w : Words) (s : P.Setup) (rs : List M.Reply) : Type 0 where
   pub words : w .state .words ≡ length (logWords rs)
   pub room : w .state .words ≤ length (w .log)
   pub log : logIn w ≡ logWords rs
+
+-- the words hold the fit of the setup s, an accepted one, after the replies rs
+pub record Held (w : Words) (s : P.Setup) (rs : List M.Reply) : Type 0 where
+  pub accepted : Accepted s
+  pub stands : Stands w s rs

@@ -9,15 +9,16 @@ use lib.Ieee.{Float}
 use Rattle.definition.specs.Record.{Lengths, Reading, plainRefusal, readRecord}
 use Rattle.definition.specs.History.{restoredAnswer}
 use Rattle.definition.specs.Programs.{mostBytes, readInput}
+use Rattle.definition.proofs.Plenty.{read-plenty}
 use Rattle.problem.specs.Setups.{refusalOf}
 use Rattle.problem.specs.declared.Refusal.{Refusal}
 use Rattle.fit.specs.declared.Fit.{Fit}
-use Rattle.lbfgsb.specs.Words.{Words, words, lengths, next, kept}
+use Rattle.lbfgsb.specs.Words.{Words, words, lengths}
+use Rattle.lbfgsb.specs.Bridge.{next, kept}
 use Rattle.lbfgsb.specs.Did.{Restores, Restored}
 use Rattle.lbfgsb.specs.declared.Answer.{Answer}
 use Rattle.lbfgsb.specs.declared.Answer.the-variants as A
 use Rattle.input.specs.Input.{Taken}
-use Rattle.input.proofs.Plenty.{read-plenty}
 
 -- ---- an input too long
 
@@ -32,7 +33,7 @@ taken-long bs c a l h e = rw (read-long bs h) e
 -- ---- one that is restored
 
 restored-taken : (d : Reading) (f : Fit) (r : Answer) (w : Words) (a : List Float) (l : List ℕ) → kept r ≡ restoredAnswer d → Restores d w (words (next f r) a l) → Taken d r a l
-restored-taken (Reading.accepted s rs) f (A.Kept g) w a l e h = h
+restored-taken (Reading.accepted s rs) f (A.Kept g) w a l e h = h .held
 restored-taken (Reading.accepted s rs) f (A.Refused c) w a l e h = let z : _≡_ {A = ℕ} 0 1 = cc in omega arith
 restored-taken (Reading.refused k) f (A.Kept g) w a l e h = let z : _≡_ {A = ℕ} 0 1 = cc in omega arith
 restored-taken (Reading.refused k) f (A.Refused c) w a l e h = cc

@@ -1,2 +1,2 @@
-pub mod Plenty
 pub mod Laws
+pub mod NeverShort

@@ -17,7 +17,8 @@ use Rattle.definition.specs.History.{Call, History, historyStep, historyAnswer,
 use Rattle.fit.specs.declared.Fit.{Fit}
 use Rattle.driver.specs.Replies.{isHeld}
 use Rattle.lbfgsb.specs.Words.{Words, words, lengths, Held, Holds}
-use Rattle.lbfgsb.specs.Did.{Started, checkAt, Moved, Replied}
+use Rattle.lbfgsb.specs.Did.{Started, Moved, Replied}
+use Rattle.lbfgsb.specs.Table.{checkAt}
 use Rattle.accept.specs.Moves.{written, checkSaid, Advances}
 use Rattle.accept.proofs.Replying.{said-passed}
 use Rattle.accept.proofs.Laws.{held-advanced, written-length}
@@ -53,16 +54,16 @@ start-done s w w' e z l h = record {
 
 -- the check of a history that the words hold
 check-held : (w : Words) (s : P.Setup) (rs : List M.Reply) (r : M.Reply) → Held w s rs → checkReply (lengths w) s rs r ≡ checkAt w r
-check-held w s rs r h = rw (← h .is, ← h .words) refl
+check-held w s rs r h = rw (← h .stands .is, ← h .stands .words) refl
 
 unheld-holds : (w : Words) (r : M.Reply) → isHeld (w .state) (w .area) ≡ false → (h : History) → Holds w h → Holds w (historyStep (lengths w) h (Call.reply r))
 unheld-holds w r e History.empty k = k
-unheld-holds w r e (History.fit s rs) k = absurd (false≢true (sym e ∙ k .test))
+unheld-holds w r e (History.fit s rs) k = absurd (false≢true (sym e ∙ k .stands .test))
 
 unheld-said : (w : Words) (r : M.Reply) → isHeld (w .state) (w .area) ≡ false → (h : History) → Holds w h
     → H.Answer.refused (plainRefusal 13) ≡ historyAnswer (lengths w) h (Call.reply r)
 unheld-said w r e History.empty k = refl
-unheld-said w r e (History.fit s rs) k = absurd (false≢true (sym e ∙ k .test))
+unheld-said w r e (History.fit s rs) k = absurd (false≢true (sym e ∙ k .stands .test))
 
 pub reply-unheld : (r : M.Reply) (w : Words) → isHeld (w .state) (w .area) ≡ false → Replied r w w (H.Answer.refused (plainRefusal 13))
 reply-unheld r w e = record {

@@ -3,7 +3,6 @@ use Prim.Native.Nat.{ℕ, _+_, _-_, _≤_, _<_}
 use native.Mathlib.Omega.{arith}
 use mathlib.Core.Path.{_≡_, refl, sym, ap, ap₂, _∙_, subst}
 use mathlib.Core.Bool.{Bool, true, false, false≢true}
-use mathlib.Core.Logic.{inl, inr}
 use mathlib.Core.List.{List, _++_, append-assoc}
 use mathlib.Core.Option.{Option, none, some}
 use lib.Dec.{ltb}
@@ -12,25 +11,26 @@ use lib.Seq.{take-at, take-take, length-take-le}
 use lib.Ieee.{Float}
 use borrow.Author.Tests.{lt-ltb, le-ltb}
 use Rattle.definition.specs.Number.{zero64}
-use Rattle.definition.specs.Problem.{Setup, Refusal, Check, refuse, when, _then_, validate}
+use Rattle.definition.specs.Problem.{Setup, Refusal, Check, refuse, when, _then_}
 use Rattle.definition.specs.Machine as M
 use Rattle.definition.specs.Log.{logWords, entriesKept}
 use Rattle.definition.specs.Record.{plainRefusal}
-use Rattle.definition.specs.Replies.{Accepted}
 use Rattle.definition.specs.History as H
 use Rattle.definition.specs.History.{Call, History, refusal, left, leftUnless, answerUnless}
 use Rattle.problem.specs.Setups.{refusalOf}
 use Rattle.problem.specs.declared.Refusal as Q
 use Rattle.fit.specs.declared.Fit.{Fit}
 use Rattle.driver.specs.Replies.{isHeld}
+use Rattle.driver.proofs.Laws.{is-held}
 use Rattle.replay.specs.Replays.{ReplayedTo}
 use Rattle.replay.specs.declared.Replayed.{Replayed}
 use Rattle.replay.specs.declared.Replayed.the-variants as R
 use Rattle.lbfgsb.specs.declared.Answer.{Answer}
-use Rattle.lbfgsb.specs.Words.{Words, words, lengths, setupOf, logIn, Held, Holds, next, nextBy, kept, keptBy}
-use Rattle.lbfgsb.specs.Did.{checkBack, repliesLeft, Shortened, Spoiled, Taken, TakesReplies, TakesHeld, TakesBack, TakenBack}
+use Rattle.lbfgsb.specs.Words.{Words, words, lengths, setupOf, logIn, Stands, Held, Holds}
+use Rattle.lbfgsb.specs.Bridge.{next, nextBy, kept, keptBy}
+use Rattle.lbfgsb.specs.Did.{Shortened, Taken, TakesReplies, TakesBack, TakenBack}
+use Rattle.lbfgsb.specs.Table.{checkBack, repliesLeft, stayAnswer}
 use Rattle.rebuild.specs.Built.{struckOut, Built, Cut, Stays, Shortens}
-use Rattle.held.proofs.Laws.{reached-held}
 use Rattle.rebuild.proofs.Reread.{log-kept, all-kept}
 
 -- ---- the check is the history's
@@ -47,8 +47,8 @@ check-empty w j h = rw h
 check-same : (w : Words) (j : ℕ) (h : History) → Holds w h → refusal (lengths w) h (Call.takeBack j) ≡ checkBack w j
 check-same w j History.empty k = sym (check-empty w j k)
 check-same w j (History.fit s rs) k =
-    ap₂ (λ (e c : ℕ). when (ltb e j) (refuse 16 0 0) then when (ltb (length (w .log)) c) (refuse 12 0 0)) (sym (k .entries)) (sym (k .words))
-    ∙ sym (check-held w j (k .test))
+    ap₂ (λ (e c : ℕ). when (ltb e j) (refuse 16 0 0) then when (ltb (length (w .log)) c) (refuse 12 0 0)) (sym (k .stands .entries)) (sym (k .stands .words))
+    ∙ sym (check-held w j (k .stands .test))
 
 -- ---- every word stays
 
@@ -59,7 +59,8 @@ back-refused w j r e = record {
     holds = λ h k. subst (λ (o : Check). Holds w (leftUnless o h (Call.takeBack j))) (sym (check-same w j h k ∙ e)) k;
     said = λ h k. ap (λ (o : Check). answerUnless o h (Call.takeBack j)) (sym (check-same w j h k ∙ e));
   };
-  back = subst (λ (o : Check). TakesBack j o w w (H.Answer.refused r)) (sym e) (refl, refl);
+  always = sym (rw e refl);
+  back = subst (λ (o : Check). TakesBack j o w w) (sym e) refl;
 }
 
 -- by the refusal that the code answers
@@ -87,12 +88,13 @@ unheld-kept w j h e =
         holds = λ g k. subst (λ (o : Check). Holds w (leftUnless o g (Call.takeBack j))) (sym (check-same w j g k ∙ passed)) (stays g k);
         said = λ g k. ap (λ (o : Check). answerUnless o g (Call.takeBack j)) (sym (check-same w j g k ∙ passed));
       };
-      back = subst (λ (o : Check). TakesBack j o w w H.Answer.done) (sym passed) (rw h (refl, refl));
+      always = rw (passed, h) refl;
+      back = subst (λ (o : Check). TakesBack j o w w) (sym passed) (rw h refl);
     }
   where
     stays : (g : History) → Holds w g → Holds w (left g (Call.takeBack j))
     stays History.empty k = k
-    stays (History.fit s rs) k = absurd (false≢true (sym h ∙ k .test))
+    stays (History.fit s rs) k = absurd (false≢true (sym h ∙ k .stands .test))
 
 -- ---- words of a held fit
 
@@ -123,25 +125,26 @@ module _ (t : Fit) (a : List Float) (l : List ℕ) (j : ℕ) (test : isHeld t a 
 
   -- the replies of a history that the words hold, the last j struck
   history-left : (s : Setup) (rs : List M.Reply) → Held was s rs → repliesLeft j was ≡ some (drop j rs)
-  history-left s rs k =
+  history-left s rs h =
+      let k = h .stands in
       ap (λ (x : Setup). entriesKept x (length l) (t .entries - j) (logIn was)) (k .setup)
       ∙ ap₂ (λ (i : ℕ) (ws : List ℕ). entriesKept s (length l) (i - j) ws) (k .entries) (k .log)
       ∙ log-kept s (length l) rs (k .due) (omega (arith, k .words)) j (omega (arith, k .entries))
 
   -- the part for any words gives the part for a history
-  module _ (w : Words) (o : H.Answer) (sized : lengths w ≡ lengths was) (h : TakesHeld j (validate (setupOf was)) was w o) where
-    taken-history : (s : Setup) (rs : List M.Reply) → Held was s rs → Taken (drop j rs) was w o
+  module _ (w : Words) (o : H.Answer) (sized : lengths w ≡ lengths was) (said : o ≡ stayAnswer (repliesLeft j was)) (h : TakesReplies (repliesLeft j was) was w) where
+    taken-history : (s : Setup) (rs : List M.Reply) → Held was s rs → Held w s (drop j rs)
     taken-history s rs k =
-        subst (λ (q : Option (List M.Reply)). TakesReplies q was w o) (history-left s rs k)
-        (subst (λ (c : Check). TakesHeld j c was w o) (ap validate (k .setup) ∙ k .accepted) h)
+        let left = subst (λ (q : Option (List M.Reply)). TakesReplies q was w) (history-left s rs k) h in
+        record { accepted = k .accepted; stands = subst (λ (x : Setup). Stands w x (drop j rs)) (k .stands .setup) (left .stands) }
 
     holds-left : (g : History) → Holds was g → Holds w (left g (Call.takeBack j))
     holds-left History.empty k = absurd (false≢true (sym k ∙ test))
-    holds-left (History.fit s rs) k = subst (λ (x : Setup). Held w x (drop j rs)) (k .setup) (taken-history s rs k .held)
+    holds-left (History.fit s rs) k = taken-history s rs k
 
     says-done : (g : History) → Holds was g → o ≡ H.Answer.done
     says-done History.empty k = absurd (false≢true (sym k ∙ test))
-    says-done (History.fit s rs) k = taken-history s rs k .said
+    says-done (History.fit s rs) k = said ∙ ap stayAnswer (history-left s rs k)
 
     held-back : TakenBack j was w o
     held-back = record {
@@ -150,11 +153,13 @@ module _ (t : Fit) (a : List Float) (l : List ℕ) (j : ℕ) (test : isHeld t a 
         holds = λ g k. subst (λ (c : Check). Holds w (leftUnless c g (Call.takeBack j))) (sym (check-same was j g k ∙ passed)) (holds-left g k);
         said = λ g k. says-done g k ∙ ap (λ (c : Check). answerUnless c g (Call.takeBack j)) (sym (check-same was j g k ∙ passed));
       };
-      back = subst (λ (c : Check). TakesBack j c was w o) (sym passed) (rw test h);
+      always = rw (passed, test) said;
+      back = subst (λ (c : Check). TakesBack j c was w) (sym passed) (rw test h);
     }
 
   -- the entries that are to stay are there
-  module _ (f : Fit) (b : List Float) (h : Built (setupOf was) (logIn was) (t .entries - j) (length l) (length a) f b) (all : f .entries ≡ t .entries - j) where
+  module _ (f : Fit) (b : List Float) (h : Built (setupOf was) (logIn was) (t .entries - j) (length l) (length a) f b) (all : f .entries ≡ t .entries - j)
+      (r : ReplayedTo (setupOf was) (logIn was) (length l) f b) where
     fewer-words : f .words ≤ t .words
     fewer-words = omega (arith, h .words, length-take-le (t .words) l room)
 
@@ -168,63 +173,49 @@ module _ (t : Fit) (a : List Float) (l : List ℕ) (j : ℕ) (test : isHeld t a 
     shortened = record { words = fewer-words; log = refl }
 
     -- the log's front spells the replies
-    log-left : (r : ReplayedTo (setupOf was) (logIn was) (length l) f b) → take (f .words) now-log ≡ logWords (r .replies)
-    log-left r =
+    log-left : take (f .words) now-log ≡ logWords (r .replies)
+    log-left =
         struck-front (f .words) (t .words) l fewer-words room
         ∙ sym (take-take (f .words) (t .words) l fewer-words)
         ∙ ap (take (f .words)) (sym (r .spelled))
         ∙ take-at (logWords (r .replies)) (drop (f .words) (logIn was)) (f .words) (sym (r .words))
 
-    taken-held : (e : Accepted (setupOf was)) → Held (words f b now-log) (setupOf was) (h .is e .replies)
-    taken-held e =
-        let r = h .is e in
-        reached-held
-        (record {
-          accepted = e;
-          due = r .due;
-          setup = h .setup;
-          is = r .is;
-          sound = h .sound;
-          area = h .area;
-          settled = h .settled;
-          entries = r .entries;
-          words = r .words;
-        })
-        (h .mark) (omega (arith, fewer-words, now-long)) (log-left r)
-
-    taken-by : (c : Check) → validate (setupOf was) ≡ c → TakesHeld j c was (words f b now-log) H.Answer.done
-    taken-by none e =
-        subst (λ (q : Option (List M.Reply)). TakesReplies q was (words f b now-log) H.Answer.done) (sym (all-kept (t .entries - j) (h .is e) all))
-        (record { said = refl; held = taken-held e; log = shortened })
-    taken-by (some c) e = inl (record { said = refl; setup = h .setup; entries = all; mark = h .mark; log = shortened })
+    taken : Taken (r .replies) was (words f b now-log)
+    taken = record {
+      stands = record {
+        due = r .due;
+        test = is-held f b (r .ready) (h .mark);
+        setup = h .setup;
+        is = r .is;
+        settled = h .settled;
+        entries = r .entries;
+        words = r .words;
+        room = omega (arith, fewer-words, now-long);
+        log = log-left;
+      };
+      log = shortened;
+    }
 
     taken-back : TakenBack j was (words f b now-log) H.Answer.done
-    taken-back = held-back (words f b now-log) H.Answer.done (ap₂ (λ (x y : ℕ). record { area = x; log = y }) (h .long) now-long) (taken-by (validate (setupOf was)) refl)
+    taken-back =
+        let kept = sym (all-kept (t .entries - j) r all) in
+        held-back (words f b now-log) H.Answer.done (ap₂ (λ (x y : ℕ). record { area = x; log = y }) (h .long) now-long) (ap stayAnswer kept)
+        (subst (λ (q : Option (List M.Reply)). TakesReplies q was (words f b now-log)) kept taken)
 
   -- one of them is refused
   module _ (number : ℕ) (b : List Float) (h : Cut (setupOf was) (logIn was) (t .entries - j) (length l) (length a) number b) where
-    spoiled : Spoiled was (words t b l) (H.Answer.refused (plainRefusal number))
-    spoiled = record {
-      said = ap (λ (i : ℕ). H.Answer.refused (plainRefusal i)) (h .which);
-      zeroed = record { state = refl; area = h .area; log = refl };
-    }
-
-    spoiled-by : (c : Check) → validate (setupOf was) ≡ c → TakesHeld j c was (words t b l) (H.Answer.refused (plainRefusal number))
-    spoiled-by none e =
-        subst (λ (q : Option (List M.Reply)). TakesReplies q was (words t b l) (H.Answer.refused (plainRefusal number))) (sym (h .is e)) spoiled
-    spoiled-by (some c) e = inr spoiled
-
     back-zeroed : TakenBack j was (words t b l) (H.Answer.refused (plainRefusal number))
     back-zeroed =
         held-back (words t b l) (H.Answer.refused (plainRefusal number))
         (ap (λ (x : ℕ). record { area = x; log = length l }) (ap length (h .area) ∙ length-replicate (length a) zero64))
-        (spoiled-by (validate (setupOf was)) refl)
+        (ap (λ (i : ℕ). H.Answer.refused (plainRefusal i)) (h .which) ∙ ap stayAnswer (sym (h .is)))
+        (subst (λ (q : Option (List M.Reply)). TakesReplies q was (words t b l)) (sym (h .is)) (ap (λ (x : List Float). words t x l) (h .area)))
 
   -- ---- by what is built
 
   built-back : (q : Replayed) (b : List Float) (m : List ℕ) → Stays (setupOf was) (logIn was) (t .entries - j) (length l) (length a) q b → Shortens q (t .words) l m
       → TakenBack j was (words (nextBy t q) b m) (keptBy q)
-  built-back (R.Done f) b m h z = subst (λ (k : List ℕ). TakenBack j was (words f b k) H.Answer.done) (sym z) (taken-back f b (h .0) (h .1))
+  built-back (R.Done f) b m h z = subst (λ (k : List ℕ). TakenBack j was (words f b k) H.Answer.done) (sym z) (taken-back f b (h .0) (h .1) (h .2))
   built-back (R.Refused i) b m h z = subst (λ (k : List ℕ). TakenBack j was (words t b k) (H.Answer.refused (plainRefusal i))) (sym z) (back-zeroed i b h)
 
   pub answered-back : (q : Replayed) (o : Answer) (b : List Float) (m : List ℕ) → ((t : Fit) → next t o ≡ nextBy t q) × (kept o ≡ keptBy q)

@@ -20,7 +20,7 @@ use Rattle.definition.proofs.Own.{held-is-own, held-point, start-asked-first}
 use Rattle.definition.proofs.Value.{not-above-first}
 use Rattle.definition.proofs.Box.{held-in-box, held-not-nan, asked-in-box, asked-not-nan}
 use Rattle.lbfgsb.specs.Words.{Words, lengths, Holds}
-use Rattle.lbfgsb.specs.Chain.{Chain, Allowed, Valued, Fitted, Asks}
+use Rattle.lbfgsb.specs.Chain.{Chain, Allowed, Bounded, Valued, Fitted, Asks}
 use Rattle.lbfgsb.proofs.Trace.{Called, did, after, every-allowed-list}
 
 -- ---- there is a report
@@ -96,9 +96,15 @@ fitted s rs a d v =
       drawn = drawn-is-nfev s rs a d;
       values = nfev-within-budget s rs a d;
       iterations = nit-within-budget s rs a d;
-      most = replies-bounded s rs a d;
-      ended = ended-with-most-replies s rs a d;
     }
+
+-- after every list of calls the fit held, with or without a value reply, after a failure too, has at most so many replies
+pub every-fit-bounded :
+    {w w' : Words} {cs : List Call} {os : List Answer} {s : Setup} {rs : List Reply}
+    → Allowed w cs os → Chain Called w cs os w' → historyAfter (lengths w) History.empty cs ≡ History.fit s rs → Bounded s rs
+every-fit-bounded {s} {rs} p ch e =
+    let sound = every-allowed-list p ch .keeps s rs e .sound in
+    record { most = replies-bounded s rs (sound .accepted) (sound .due); ended = ended-with-most-replies s rs (sound .accepted) (sound .due) }
 
 -- after every list of calls, a report into n floats or more answers such a report
 pub every-report :

@@ -1,5 +1,6 @@
 -- What the words hold determines them: state whole, and of the area the vectors in use. Assumes nothing.
-use Prim.Native.Nat.{ℕ, _<_}
+use Prim.Native.Nat.{ℕ, zero, suc, _<_}
+use native.Mathlib.Omega.{arith}
 use mathlib.Core.Path.{_≡_, refl, sym, ap, _∙_, subst}
 use mathlib.Core.Bool.{Bool, true, false, cond}
 use mathlib.Core.List.{List}
@@ -36,8 +37,8 @@ use Rattle.fit.specs.declared.Phase.{Phase}
 use Rattle.fit.specs.declared.Phase.the-variants.{Value, Gradient, Probe, Notice, Ended}
 use Rattle.driver.proofs.Laws.{held-ready, held-marked, ready-facts}
 use Rattle.lbfgsb.specs.Words.{Words, lengths, setupOf, machineIn, Held}
-use Rattle.lbfgsb.specs.Chain.{Named, Agree, vectorsIn}
-use Rattle.lbfgsb.proofs.Areas.{each-vector}
+use Rattle.lbfgsb.specs.Chain.{Agree}
+use Rattle.lbfgsb.proofs.Areas.{InUse, each-word}
 
 -- ---- enums of the code, back from the definition's
 
@@ -231,16 +232,16 @@ module _ (w v : Words) (d : setupOf w ≡ setupOf v) where
 
 module _ {w v : Words} {s : P.Setup} {rs : List M.Reply} (h : Held w s rs) (k : Held v s rs) where
   same-machine : machineIn w ≡ machineIn v
-  same-machine = h .is ∙ sym (k .is)
+  same-machine = h .stands .is ∙ sym (k .stands .is)
 
   same-setup : setupOf w ≡ setupOf v
-  same-setup = h .setup ∙ sym (k .setup)
+  same-setup = h .stands .setup ∙ sym (k .stands .setup)
 
   same-entries : w .state .entries ≡ v .state .entries
-  same-entries = h .entries ∙ sym (k .entries)
+  same-entries = h .stands .entries ∙ sym (k .stands .entries)
 
   same-words : w .state .words ≡ v .state .words
-  same-words = h .words ∙ sym (k .words)
+  same-words = h .stands .words ∙ sym (k .stands .words)
 
   pub determined : w .state ≡ v .state
   determined =
@@ -250,7 +251,7 @@ module _ {w v : Words} {s : P.Setup} {rs : List M.Reply} (h : Held w s rs) (k : 
       let limits = same-limits w v e in
       let counters = same-counters w v e in
       let phase = same-phase w v e in
-      let search = same-search w v e (h .settled) (k .settled) in
+      let search = same-search w v e (h .stands .settled) (k .stands .settled) in
       let trials = same-trials w v e in
       let entries = same-entries in
       let words = same-words in
@@ -271,32 +272,32 @@ module _ {w v : Words} {s : P.Setup} {rs : List M.Reply} (h : Held w s rs) (k : 
         words = words i;
       }
 
-  named : Named (vectorsIn w) (vectorsIn v)
-  named =
-      let e = same-machine in
-      record {
-        x = ap (λ (m : M.Machine). m .held .x) e;
-        g = ap (λ (m : M.Machine). m .held .g) e;
-        lower = ap (λ (m : M.Machine). m .terms .bounds .lower) e;
-        upper = ap (λ (m : M.Machine). m .terms .bounds .upper) e;
-        x0 = ap (λ (p : P.Setup). p .x0) same-setup;
-        trial = ap (λ (m : M.Machine). m .trial .x) e;
-        trialGradient = ap (λ (m : M.Machine). m .trial .g) e;
-        direction = ap (λ (m : M.Machine). m .direction) e;
-      }
+  -- the first eight vectors
+  same-low : (q : ℕ) → q < 8 → view (w .area) (w .state .shape .n) q ≡ view (v .area) (v .state .shape .n) q
+  same-low zero l = ap (λ (m : M.Machine). m .held .x) same-machine
+  same-low (suc zero) l = ap (λ (m : M.Machine). m .held .g) same-machine
+  same-low (suc (suc zero)) l = ap (λ (m : M.Machine). m .terms .bounds .lower) same-machine
+  same-low (suc (suc (suc zero))) l = ap (λ (m : M.Machine). m .terms .bounds .upper) same-machine
+  same-low (suc (suc (suc (suc zero)))) l = ap (λ (p : P.Setup). p .x0) same-setup
+  same-low (suc (suc (suc (suc (suc zero))))) l = ap (λ (m : M.Machine). m .trial .x) same-machine
+  same-low (suc (suc (suc (suc (suc (suc zero)))))) l = ap (λ (m : M.Machine). m .trial .g) same-machine
+  same-low (suc (suc (suc (suc (suc (suc (suc zero))))))) l = ap (λ (m : M.Machine). m .direction) same-machine
+  same-low (suc (suc (suc (suc (suc (suc (suc (suc q)))))))) l = absurd (omega (arith, l))
 
-  pairs : (k : ℕ) → k < w .state .shape .pairs → pairAt (w .state .shape) (vectorsIn w) k ≡ pairAt (w .state .shape) (vectorsIn v) k
-  pairs k l = same-pair w v same-machine k l ∙ ap (λ (t : Fit). pairAt (t .shape) (vectorsIn v) k) (sym determined)
+  in-use : InUse (w .state .shape) (view (w .area) (w .state .shape .n)) (view (v .area) (w .state .shape .n))
+  in-use =
+      record {
+        low = λ q l. same-low q l ∙ ap (λ (t : Fit). view (v .area) (t .shape .n) q) (sym determined);
+        pairs = λ k l. same-pair w v same-machine k l ∙ ap (λ (t : Fit). pairAt (t .shape) (view (v .area) (t .shape .n)) k) (sym determined);
+      }
 
   pub agree : lengths w ≡ lengths v → Agree w v
   agree l =
-      let sound = ready-facts (w .state) (length (w .area)) (held-ready (w .state) (w .area) (h .test)) .ready .sound in
+      let facts = ready-facts (w .state) (length (w .area)) (held-ready (w .state) (w .area) (h .stands .test)) in
       record {
         state = determined;
-        area = λ q m. each-vector (w .state .shape) (vectorsIn w) (vectorsIn v) (sound .ring) (sound .most) named pairs q;
-        named = named;
-        pairs = pairs;
-        mark = (held-marked (w .state) (w .area) (h .test), held-marked (v .state) (v .area) (k .test));
-        log = h .log ∙ sym (k .log);
+        area = each-word (w .state .shape) (w .area) (v .area) (facts .positive) (facts .ready .sound) in-use;
+        mark = (held-marked (w .state) (w .area) (h .stands .test), held-marked (v .state) (v .area) (k .stands .test));
+        log = h .stands .log ∙ sym (k .stands .log);
         sized = l;
       }

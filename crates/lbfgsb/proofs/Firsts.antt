@@ -4,7 +4,7 @@ use native.Mathlib.Omega.{arith}
 use mathlib.Core.Path.{_≡_, refl, ap}
 use mathlib.Core.List.{List, [], _∷_}
 use lib.ListN.{length, take}
-use Rattle.lbfgsb.specs.Words.{firstOf}
+use Rattle.lbfgsb.specs.Bridge.{firstOf}
 
 pub first-long : (k : ℕ) (out : List ℕ) → length (firstOf k out) ≡ k
 first-long zero out = refl

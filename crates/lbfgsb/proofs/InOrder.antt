@@ -39,11 +39,11 @@ ordered-fit w (History.fit s rs) k = fitted w (History.fit s rs) k
 
 entries-kept : (w : Words) (h : History) → Holds w h → (s : Setup) (qs : List Reply) → inOrder h ≡ Ordered.fit s qs → w .state .entries ≡ length qs
 entries-kept w History.empty k s qs e = absurd (false≢true (ap hasFit e))
-entries-kept w (History.fit t rs) k s qs e = k .entries ∙ sym (length-reverse rs) ∙ ap (λ (o : Ordered). length (repliesIn o)) e
+entries-kept w (History.fit t rs) k s qs e = k .stands .entries ∙ sym (length-reverse rs) ∙ ap (λ (o : Ordered). length (repliesIn o)) e
 
 log-kept : (w : Words) (h : History) → Holds w h → (s : Setup) (qs : List Reply) → inOrder h ≡ Ordered.fit s qs → take (w .state .words) (w .log) ≡ logInOrder qs
 log-kept w History.empty k s qs e = absurd (false≢true (ap hasFit e))
-log-kept w (History.fit t rs) k s qs e = k .log ∙ sym (log-is rs) ∙ ap (λ (o : Ordered). logInOrder (repliesIn o)) e
+log-kept w (History.fit t rs) k s qs e = k .stands .log ∙ sym (log-is rs) ∙ ap (λ (o : Ordered). logInOrder (repliesIn o)) e
 
 -- for every list, from words that hold no fit or with an accepted opening or reading in first
 pub in-order : {w w' : Words} {cs : List Call} {os : List Answer} → Allowed w cs os → Chain Called w cs os w' → InOrder w cs os w'

@@ -10,8 +10,11 @@ pub mod Lists
 pub mod Trace
 pub mod InOrder
 pub mod Alike
+pub mod Unread
 pub mod Consequences
-pub mod AnyWords
-pub mod Leaves
+pub mod Table
 pub mod Outputs
+pub mod Exact
+pub mod Leaves
+pub mod Typed
 pub mod Records

@@ -25,7 +25,8 @@ use Rattle.definition.specs.History.{Call, Answer, History, entryAt, checkQuest
 use Rattle.definition.proofs.Histories.{history-sound}
 use Rattle.driver.specs.Replies.{isHeld, markAt, marked, isReady}
 use Rattle.lbfgsb.specs.Words.{Words, lengths, Held, Holds}
-use Rattle.lbfgsb.specs.Did.{Did, Opening, Stepped, Started, Restored, Restores, refusedBy}
+use Rattle.lbfgsb.specs.Did.{Did, Opening, Stepped, Started, Restored, Restores}
+use Rattle.lbfgsb.specs.Table.{refusedBy}
 use Rattle.lbfgsb.specs.Chain.{Chain, Blank, Opens, Allowed, FitIn, HasFit, Keeps, KeepsNone, After, Demand}
 
 -- ---- words that hold no fit
@@ -74,7 +75,7 @@ zeros-blank w k e = record { zeros = subst (λ (a : List Float). (i : ℕ) → i
 
 pub fitted : (w : Words) (h : History) → Holds w h → FitIn w ↔ HasFit h
 fitted w History.empty k = ((λ e. false≢true (sym k ∙ e)), (λ x. absurd x))
-fitted w (History.fit s rs) k = ((λ e. tt), (λ x. k .test))
+fitted w (History.fit s rs) k = ((λ e. tt), (λ x. k .stands .test))
 
 -- ---- the history's answers, where no output is too short
 
@@ -127,7 +128,7 @@ restore-opens : {bs : List ℕ} {w w' : Words} → Restored bs w w' Answer.done 
 restore-opens {bs} {w} {w'} k = go (readRecord (lengths w) bs) (k .always) (k .restores)
   where
     go : (d : Reading) → Answer.done ≡ restoredAnswer d → Restores d w w' → Holds w' (restored History.empty d)
-    go (Reading.accepted s rs) e r = r
+    go (Reading.accepted s rs) e r = r .held
     go (Reading.refused c) e r = cc
     go (Reading.refusedAtEntry c) e r = cc
 
@@ -165,9 +166,9 @@ module _ {D : Call → Words → Words → Answer → Type 0} (known : Known D) 
       let z = lengths w in
       record {
         sound = sound;
-        entries = k .entries;
-        words = k .words;
-        log = k .log;
+        entries = k .stands .entries;
+        words = k .stands .words;
+        log = k .stands .log;
         question = λ {room} d l. known .did d .said h k ∙ question-answer z s rs room l;
         report = λ {room} d e l. known .did d .said h k ∙ report-answer z s rs room e l;
         withheld = λ {room} d e. known .did d .said h k ∙ withheld-answer z s rs room e;

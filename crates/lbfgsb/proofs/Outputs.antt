@@ -5,11 +5,10 @@ use mathlib.Core.Path.{_≡_, refl, sym, ap, subst, _∙_}
 use mathlib.Core.List.{List, [], _∷_, _++_}
 use lib.ListN.{length, take, drop}
 use lib.Ieee.{Float}
-use contract.Lifetimes.{Lfts}
 use denote.Ref.{now}
-use denote.Triple.Clauses.{AtExit}
-use borrow.Fn.Kinds.{Dens, endedOf, resT}
-use Rattle.lbfgsb.specs.Words.{asked, told, entered, saved, firstOf}
+use Rattle.definition.specs.History.{Call, Answer}
+use Rattle.lbfgsb.specs.Words.{Words}
+use Rattle.lbfgsb.specs.Bridge.{asked, told, entered, saved, firstOf}
 use Rattle.lbfgsb.specs.Did.{Written, taken}
 use Rattle.lbfgsb.specs.Chain.{Output, floatsOf, numbersOf}
 use Rattle.lbfgsb.specs.declared.Asked.{Asked}
@@ -19,14 +18,7 @@ use Rattle.lbfgsb.specs.declared.Told.the-variants as T
 use Rattle.lbfgsb.specs.declared.Wrote.{Wrote}
 use Rattle.lbfgsb.specs.declared.Wrote.the-variants as W
 use Rattle.lbfgsb.proofs.Firsts.{first-long, first-taken}
-use Rattle.lbfgsb.proofs.question.Kinds as question-kinds
-use Rattle.lbfgsb.proofs.question.Reads as question-reads
-use Rattle.lbfgsb.proofs.report.Kinds as report-kinds
-use Rattle.lbfgsb.proofs.report.Reads as report-reads
-use Rattle.lbfgsb.proofs.entry.Kinds as entry-kinds
-use Rattle.lbfgsb.proofs.entry.Reads as entry-reads
-use Rattle.lbfgsb.proofs.save.Kinds as save-kinds
-use Rattle.lbfgsb.proofs.save.Reads as save-reads
+use Rattle.lbfgsb.proofs.Trace.{Called, by-start, by-restore, by-reply, by-take-back, by-question, by-report, by-replies, by-entry, by-save}
 
 front-back : {A : Type 0} (n : ℕ) (l : List A) → take n l ++ drop (length (take n l)) l ≡ l
 front-back zero l = refl
@@ -67,24 +59,26 @@ saved-written (W.Refused c) out out' h = none-written h
 pub answer-decides : {A : Type 0} (front out a b : List A) → Output front out a → Output front out b → a ≡ b
 answer-decides front out a b p q = p ∙ sym q
 
--- ---- the theorems: the answer and the output are those of `Called`
+-- ---- each call: the answer and the output are those of `Called`; a call that is lent no output has none
 
-pub question-output :
-    (κs : Lfts 2) (a : Dens κs question-kinds.ps) (z : resT question-kinds.r κs .Denot) (e : AtExit (endedOf 2 question-kinds.ps question-kinds.r) κs)
-    → question-reads.Learnt κs a z e → Output (floatsOf (asked z (a .0 .shape .n) (now (e .1 .1 .0)))) (now (a .1 .1 .0)) (now (e .1 .1 .0))
-question-output κs a z e l = asked-written z (a .0 .shape .n) (now (a .1 .1 .0)) (now (e .1 .1 .0)) (l [] .written)
+abbrev pub OutputOf : {c : Call} {w w' : Words} {o : Answer} → Called c w w' o → Type 0
+OutputOf (by-start κs a z e log l) = Unit {0}
+OutputOf (by-restore κs a z e l) = Unit {0}
+OutputOf (by-reply κs a z e l) = Unit {0}
+OutputOf (by-take-back κs a z e l) = Unit {0}
+OutputOf (by-question κs a z e log l) = Output (floatsOf (asked z (a .0 .shape .n) (now (e .1 .1 .0)))) (now (a .1 .1 .0)) (now (e .1 .1 .0))
+OutputOf (by-report κs a z e log l) = Output (floatsOf (told z (a .0 .shape .n) (now (e .1 .1 .0)))) (now (a .1 .1 .0)) (now (e .1 .1 .0))
+OutputOf (by-replies κs a z e log l) = Unit {0}
+OutputOf (by-entry κs a z e l) = Output (numbersOf (entered z (now (e .1 .1 .1 .1 .0)))) (now (a .1 .1 .1 .1 .0)) (now (e .1 .1 .1 .1 .0))
+OutputOf (by-save κs a z e l) = Output (numbersOf (saved z (now (e .1 .1 .1 .0)))) (now (a .1 .1 .1 .0)) (now (e .1 .1 .1 .0))
 
-pub report-output :
-    (κs : Lfts 2) (a : Dens κs report-kinds.ps) (z : resT report-kinds.r κs .Denot) (e : AtExit (endedOf 2 report-kinds.ps report-kinds.r) κs)
-    → report-reads.Learnt κs a z e → Output (floatsOf (told z (a .0 .shape .n) (now (e .1 .1 .0)))) (now (a .1 .1 .0)) (now (e .1 .1 .0))
-report-output κs a z e l = told-written z (a .0 .shape .n) (now (a .1 .1 .0)) (now (e .1 .1 .0)) (l [] .written)
-
-pub entry-output :
-    (κs : Lfts 3) (a : Dens κs entry-kinds.ps) (z : resT entry-kinds.r κs .Denot) (e : AtExit (endedOf 3 entry-kinds.ps entry-kinds.r) κs)
-    → entry-reads.Learnt κs a z e → Output (numbersOf (entered z (now (e .1 .1 .1 .1 .0)))) (now (a .1 .1 .1 .1 .0)) (now (e .1 .1 .1 .1 .0))
-entry-output κs a z e l = entered-written z (now (a .1 .1 .1 .1 .0)) (now (e .1 .1 .1 .1 .0)) (l .written)
-
-pub save-output :
-    (κs : Lfts 3) (a : Dens κs save-kinds.ps) (z : resT save-kinds.r κs .Denot) (e : AtExit (endedOf 3 save-kinds.ps save-kinds.r) κs)
-    → save-reads.Learnt κs a z e → Output (numbersOf (saved z (now (e .1 .1 .1 .0)))) (now (a .1 .1 .1 .0)) (now (e .1 .1 .1 .0))
-save-output κs a z e l = saved-written z (now (a .1 .1 .1 .0)) (now (e .1 .1 .1 .0)) (l .written)
+pub output : {c : Call} {w w' : Words} {o : Answer} (d : Called c w w' o) → OutputOf d
+output (by-start κs a z e log l) = tt
+output (by-restore κs a z e l) = tt
+output (by-reply κs a z e l) = tt
+output (by-take-back κs a z e l) = tt
+output (by-question κs a z e log l) = asked-written z (a .0 .shape .n) (now (a .1 .1 .0)) (now (e .1 .1 .0)) (l log .written)
+output (by-report κs a z e log l) = told-written z (a .0 .shape .n) (now (a .1 .1 .0)) (now (e .1 .1 .0)) (l log .written)
+output (by-replies κs a z e log l) = tt
+output (by-entry κs a z e l) = entered-written z (now (a .1 .1 .1 .1 .0)) (now (e .1 .1 .1 .1 .0)) (l .written)
+output (by-save κs a z e l) = saved-written z (now (a .1 .1 .1 .0)) (now (e .1 .1 .1 .0)) (l .written)

@@ -25,8 +25,10 @@ use Rattle.question.specs.Reports.{pointAsked, written, reportOf}
 use Rattle.question.specs.declared.Outcome.{Outcome}
 use Rattle.record.specs.Records.{setupSize}
 use Rattle.driver.specs.Replies.{isHeld}
-use Rattle.lbfgsb.specs.Words.{words, firstOf}
-use Rattle.lbfgsb.specs.Did.{Written, refusedBy, questionOf, questionAnswer, reportAnswer, frontEntry, entryIn, entryKept, shortLog, entryAnswer, recordIn, saveAnswer, taken, Read, Counted}
+use Rattle.lbfgsb.specs.Words.{words}
+use Rattle.lbfgsb.specs.Bridge.{firstOf}
+use Rattle.lbfgsb.specs.Did.{Written, taken, Read, Counted}
+use Rattle.lbfgsb.specs.Table.{refusedBy, questionOf, questionAnswer, reportAnswer, frontEntry, entryIn, entryKept, shortLog, entryAnswer, recordIn, saveAnswer}
 use Rattle.lookup.specs.Reading.{Begins}
 use Rattle.lookup.proofs.Entries.{entry-words, entry-room}
 use Rattle.lbfgsb.proofs.Firsts.{first-taken}
@@ -99,7 +101,7 @@ ended m (M.Phase.ended t) k = refl
 
 module _ (t : Fit) (a : List Float) (l : List ℕ) (out : List Float) where
   abbrev Questioned : H.Answer → List Float → Type 0
-  Questioned o out′ = Read (Call.question (length out)) (words t a l) o (questionAnswer (words t a l) (length out)) out out′
+  Questioned o out′ = Read (Call.question (length out)) (words t a l) o out out′
 
   questioned : {o : H.Answer} {out′ : List Float} → o ≡ questionAnswer (words t a l) (length out) → Written (taken o) out out′ → Questioned o out′
   questioned e h = record { said = λ g k. e ∙ question-said (words t a l) (length out) g k; always = e; written = h }
@@ -145,7 +147,7 @@ module _ (t : Fit) (a : List Float) (l : List ℕ) (out : List Float) where
 
 module _ (t : Fit) (a : List Float) (l : List ℕ) (out : List Float) where
   abbrev Reported : H.Answer → List Float → Type 0
-  Reported o out′ = Read (Call.report (length out)) (words t a l) o (reportAnswer (words t a l) (length out)) out out′
+  Reported o out′ = Read (Call.report (length out)) (words t a l) o out out′
 
   reported : {o : H.Answer} {out′ : List Float} → o ≡ reportAnswer (words t a l) (length out) → Written (taken o) out out′ → Reported o out′
   reported e h = record { said = λ g k. e ∙ report-said (words t a l) (length out) g k; always = e; written = h }
@@ -202,7 +204,7 @@ counted-unheld t a l h =
 
 module _ (t : Fit) (a : List Float) (l : List ℕ) (k : ℕ) (out : List ℕ) where
   abbrev Entered : H.Answer → List ℕ → Type 0
-  Entered o out′ = Read (Call.entry k (length out)) (words t a l) o (entryAnswer (words t a l) k (length out)) out out′
+  Entered o out′ = Read (Call.entry k (length out)) (words t a l) o out out′
 
   entered-by : {o : H.Answer} {out′ : List ℕ} → o ≡ entryAnswer (words t a l) k (length out) → Written (taken o) out out′ → Entered o out′
   entered-by e h = record { said = λ g i. e ∙ entry-said (words t a l) k (length out) g i; always = e; written = h }
@@ -272,7 +274,7 @@ module _ (t : Fit) (a : List Float) (l : List ℕ) (k : ℕ) (out : List ℕ) wh
 
 module _ (t : Fit) (a : List Float) (l : List ℕ) (out : List ℕ) where
   abbrev Saved : H.Answer → List ℕ → Type 0
-  Saved o out′ = Read (Call.save (length out)) (words t a l) o (saveAnswer (words t a l) (length out)) out out′
+  Saved o out′ = Read (Call.save (length out)) (words t a l) o out out′
 
   abbrev whole : List ℕ
   whole = recordIn (words t a l)

@@ -1,4 +1,5 @@
--- A fit saved and read in again, after every list of calls: the same fit, anywhere; and a record with one word changed is refused. Assumes nothing.
+-- A fit saved and read in again, after every list of calls whose arguments are values of their types: the same fit, anywhere; and a record with one word
+-- changed is refused. Assumes nothing.
 use Prim.Native.Nat.{ℕ, _+_, _≤_, _<_}
 use mathlib.Core.Path.{_≡_, sym, ap, _∙_, subst}
 use mathlib.Core.Bool.{false≢true}
@@ -10,17 +11,16 @@ use Rattle.definition.specs.Problem.{Setup, Check, areaNeeded}
 use Rattle.definition.specs.Machine.{Reply}
 use Rattle.definition.specs.Log.{logWords}
 use Rattle.definition.specs.Record.{Lengths, Reading, plainRefusal, readRecord, recordWords, recordBytes, bytes, wordSize}
-use Rattle.definition.specs.Values.{Each, Brings}
 use Rattle.definition.specs.Sound.{Sound}
 use Rattle.definition.specs.History.{Call, Answer, History, refusal, answerUnless, restoredAnswer, historyAnswer, historyAfter}
 use Rattle.definition.proofs.Histories.{history-sound, history-values}
 use Rattle.definition.proofs.RoundTrip.{saved-reads-back, changed-record-refused}
 use Rattle.lbfgsb.specs.Words.{Words, lengths, Held, Holds}
 use Rattle.lbfgsb.specs.Did.{Restores}
-use Rattle.lbfgsb.specs.Chain.{Chain, Allowed, Keeps, Alike, numbersOf}
+use Rattle.lbfgsb.specs.Chain.{Chain, Allowed, Keeps, Alike, isRefused, numbersOf}
 use Rattle.lbfgsb.proofs.Trace.{Called, did, opening, keeps, after}
 use Rattle.lbfgsb.proofs.Alike.{alike}
-use Rattle.lbfgsb.proofs.AnyWords.{isRefused}
+use Rattle.lbfgsb.proofs.Typed.{EachTyped, each-brings}
 
 saved-is : (z : Lengths) (s : Setup) (rs : List Reply) (room : ℕ) (bs : List ℕ) → Answer.saved bs ≡ historyAnswer z (History.fit s rs) (Call.save room) → bs ≡ recordBytes s rs
 saved-is z s rs room bs e = go (refusal z (History.fit s rs) (Call.save room)) e
@@ -40,7 +40,7 @@ reads {bs} {x} {u} {o} c e =
     subst (λ (d : Reading). Reads d x u o) e (record { said = l .always; left = l .restores })
 
 module _ {w w' : Words} {cs : List Call} {os : List Answer} {s : Setup} {rs : List Reply}
-    (allowed : Allowed w cs os) (brings : Each Brings cs) (ch : Chain Called w cs os w') (fit : historyAfter (lengths w) History.empty cs ≡ History.fit s rs) where
+    (allowed : Allowed w cs os) (ch : Chain Called w cs os w') (typed : EachTyped ch) (fit : historyAfter (lengths w) History.empty cs ≡ History.fit s rs) where
   sound : Sound (lengths w) s rs
   sound = history-sound (lengths w) cs s rs fit
 
@@ -56,23 +56,23 @@ module _ {w w' : Words} {cs : List Call} {os : List Answer} {s : Setup} {rs : Li
       (area : areaNeeded s ≤ length (x .area)) (log : length (logWords rs) ≤ length (x .log)) where
     read : Reads (Reading.accepted s rs) x u o
     read =
-        let values = history-values (lengths w) cs s rs brings fit in
+        let values = history-values (lengths w) cs s rs (each-brings ch typed) fit in
         let same = saved-is (lengths w') s rs room bs (did saved .said (History.fit s rs) held) in
         reads restored (ap (λ (b : List ℕ). readRecord (lengths x) (ahead ++ b)) same ∙ saved-reads-back (lengths x) ahead s rs (there x area log) (values .0) (values .1))
 
     -- what a saving wrote is read in at any words that are long enough, and they then keep the same fit: question, report, log and all
     pub saved-restored : (o ≡ Answer.done) × Keeps Called u s rs
-    saved-restored = (read .said, keeps (read .left) (subst (λ (z : Lengths). Sound z s rs) (sym (did restored .sized)) (there x area log)))
+    saved-restored = (read .said, keeps (read .left .held) (subst (λ (z : Lengths). Sound z s rs) (sym (did restored .sized)) (there x area log)))
 
     -- where they are equally long, they agree with those saved from
     pub saved-alike : lengths x ≡ lengths w' → Alike Called w' u
-    saved-alike e = alike w' u (History.fit s rs) held (read .left) tt (sym (did restored .sized ∙ e))
+    saved-alike e = alike w' u (History.fit s rs) held (read .left .held) tt (sym (did restored .sized ∙ e))
 
   -- the record with word i before the trailer changed to k is refused, and changes nothing
   pub changed-word-refused :
       {x u : Words} {o : Answer} (ahead : List ℕ) (i k : ℕ) → i + 4 < length (recordWords s rs) → k < wordSize → k ≢ getD (recordWords s rs) i 0
       → Called (Call.restore (ahead ++ bytes (set (recordWords s rs) i k))) x u o → (o ≡ Answer.refused (plainRefusal 18)) × (u ≡ x)
   changed-word-refused {x} ahead i k at small other c =
-      let values = history-values (lengths w) cs s rs brings fit in
+      let values = history-values (lengths w) cs s rs (each-brings ch typed) fit in
       let r = reads c (changed-record-refused (lengths x) ahead s rs i k (sound .accepted) (sound .due) (values .0) (values .1) at small other) in
       (r .said, r .left)

@@ -2,12 +2,13 @@
 use Prim.Native.Nat.{ℕ, _+_, _-_, _*_}
 use native.Mathlib.Omega.{arith}
 use mathlib.Core.Path.{_≡_, refl, sym, ap, ap₂, _∙_, subst}
-use mathlib.Core.Logic.{_⊎_, inl, inr, ⊎-elim}
+use mathlib.Core.Logic.{inl, ⊎-elim}
 use mathlib.Core.List.{List}
 use lib.ListN.{length, drop, length-append, length-drop, length-replicate}
-use lib.Seq.{take-at, drop-at}
+use lib.Seq.{take-at}
 use lib.Ieee.{Float}
 use Rattle.definition.specs.Number.{zero64}
+use Rattle.definition.specs.Log.{logWords}
 use Rattle.definition.specs.Record.{Reading, readRecord, readingOf, plainRefusal, wordsOf}
 use Rattle.definition.specs.History as H
 use Rattle.definition.specs.History.{History, restored, restoredAnswer}
@@ -25,23 +26,25 @@ use Rattle.replay.specs.Replays.{ReplayedTo}
 use Rattle.replay.specs.declared.Replayed.{Replayed}
 use Rattle.replay.specs.declared.Replayed.the-variants as R
 use Rattle.lbfgsb.specs.declared.Answer.{Answer}
-use Rattle.lbfgsb.specs.Words.{Words, words, lengths, Holds, next, nextBy, kept, keptBy}
+use Rattle.lbfgsb.specs.Words.{Words, words, lengths, Holds}
+use Rattle.lbfgsb.specs.Bridge.{next, nextBy, kept, keptBy}
 use Rattle.lbfgsb.specs.Did.{Restores, Restored}
 use Rattle.rebuild.specs.Built.{headed, Built, Unbuilt, Builds, Reloads}
 use Rattle.held.proofs.Laws.{reached-held}
 use Rattle.rebuild.proofs.Recorded.{setup, entries, entries-long, reading}
-use Rattle.rebuild.proofs.Reread.{entries-most, refused-read, replayed-all, replayed-read}
+use Rattle.definition.proofs.Entries.{entries-most}
+use Rattle.rebuild.proofs.Reread.{refused-read, replayed-all, replayed-read}
 
 -- ---- what the reading says of every history
 
 restored-holds : (w w' : Words) (d : Reading) → Restores d w w' → (h : History) → Holds w h → Holds w' (restored h d)
-restored-holds w w' (Reading.accepted s rs) r h k = r
+restored-holds w w' (Reading.accepted s rs) r h k = r .held
 restored-holds w w' (Reading.refused c) r h k = subst (λ (x : Words). Holds x h) (sym r) k
-restored-holds w w' (Reading.refusedAtEntry c) r h k = rw (r .area) (zeroed-unheld (w' .state) (length (w .area)))
+restored-holds w w' (Reading.refusedAtEntry c) r h k = subst (λ (x : Words). Holds x History.empty) (sym r) (zeroed-unheld (w .state) (length (w .area)))
 
 restores : (bs : List ℕ) (w w' : Words) (o : H.Answer) (d : Reading) → readRecord (lengths w) bs ≡ d → lengths w' ≡ lengths w → o ≡ restoredAnswer d → Restores d w w'
-    → (drop (w' .state .words) (w' .log) ≡ drop (w' .state .words) (w .log)) ⊎ (w' .log ≡ w .log) → Restored bs w w' o
-restores bs w w' o d e z a r p =
+    → Restored bs w w' o
+restores bs w w' o d e z a r =
     let always = a ∙ ap restoredAnswer (sym e) in
     record {
       did = record {
@@ -51,12 +54,11 @@ restores bs w w' o d e z a r p =
       };
       always = always;
       restores = subst (λ (x : Reading). Restores x w w') (sym e) r;
-      past = p;
     }
 
 -- ahead of the entries: every word stays
 restore-refused : (bs : List ℕ) (w : Words) (c : Q.Refusal) → readRecord (lengths w) bs ≡ Reading.refused (refusalOf c) → Restored bs w w (H.Answer.refused (refusalOf c))
-restore-refused bs w c e = restores bs w w (H.Answer.refused (refusalOf c)) (Reading.refused (refusalOf c)) e refl refl refl (inr refl)
+restore-refused bs w c e = restores bs w w (H.Answer.refused (refusalOf c)) (Reading.refused (refusalOf c)) e refl refl refl
 
 -- ---- by the answer of the checks ahead of the entries
 
@@ -72,26 +74,31 @@ module _ (bs : List ℕ) (g : Fit) (a : List Float) (l : List ℕ) (o : Options)
 
   module _ (t : Fit) (b : List Float) (k : Built (setup bs (length a) o f h) (entries bs (length a) o f h) limit (length l) (length a) t b) where
     replayed : ReplayedTo (setup bs (length a) o f h) (entries bs (length a) o f h) (length l) t b
-    replayed = k .is (h .accepted)
+    replayed = k .is (inl (h .accepted))
 
     all-words : t .words ≡ length (entries bs (length a) o f h)
     all-words =
         ⊎-elim (λ e. e)
         (λ e. omega (arith, e, k .words, replayed .entries, replayed .words, entries-most (replayed .replies), entries-long bs (length a) o f h)) (k .stopped)
 
-    abbrev now-log : List ℕ
-    now-log = headed (wordsOf (t .words) (drop (f .at + 8 * f .setup) bs)) l
+    abbrev copy : List ℕ
+    copy = wordsOf (t .words) (drop (f .at + 8 * f .setup) bs)
 
-    copied : wordsOf (t .words) (drop (f .at + 8 * f .setup) bs) ≡ entries bs (length a) o f h
+    copied : copy ≡ entries bs (length a) o f h
     copied = ap (λ (i : ℕ). wordsOf i (drop (f .at + 8 * f .setup) bs)) (all-words ∙ entries-long bs (length a) o f h)
 
-    copied-long : length (wordsOf (t .words) (drop (f .at + 8 * f .setup) bs)) ≡ t .words
+    logged : copy ≡ logWords (replayed .replies)
+    logged = copied ∙ sym (replayed-all replayed all-words)
+
+    abbrev now-log : List ℕ
+    now-log = headed copy l
+
+    copied-long : length copy ≡ t .words
     copied-long = wordsOf-length (t .words) (drop (f .at + 8 * f .setup) bs)
 
     headed-long : length now-log ≡ length l
     headed-long =
-        length-append (wordsOf (t .words) (drop (f .at + 8 * f .setup) bs)) (drop (length (wordsOf (t .words) (drop (f .at + 8 * f .setup) bs))) l)
-        ∙ omega (arith, copied-long, length-drop (length (wordsOf (t .words) (drop (f .at + 8 * f .setup) bs))) l, k .within)
+        length-append copy (drop (length copy) l) ∙ omega (arith, copied-long, length-drop (length copy) l, k .within)
 
     restore-kept : Restored bs (words g a l) (words t b now-log) H.Answer.done
     restore-kept =
@@ -99,23 +106,23 @@ module _ (bs : List ℕ) (g : Fit) (a : List Float) (l : List ℕ) (o : Options)
         (reading bs (length a) o f h (length l) ∙ ap (readingOf (setup bs (length a) o f h)) (replayed-read replayed all-words (k .within)))
         (ap₂ (λ (x y : ℕ). record { area = x; log = y }) (k .long) headed-long)
         refl
-        (reached-held
         (record {
-          accepted = h .accepted;
-          due = replayed .due;
-          setup = k .setup;
-          is = replayed .is;
-          sound = k .sound;
-          area = k .area;
-          settled = k .settled;
-          entries = replayed .entries;
-          words = replayed .words;
+          held =
+              reached-held
+              (record {
+                accepted = h .accepted;
+                due = replayed .due;
+                setup = k .setup;
+                is = replayed .is;
+                sound = k .sound;
+                area = k .area;
+                settled = k .settled;
+                entries = replayed .entries;
+                words = replayed .words;
+              })
+              (k .mark) (omega (arith, headed-long, k .within)) (take-at copy (drop (length copy) l) (t .words) copied-long ∙ logged);
+          log = ap (λ (ws : List ℕ). headed ws l) logged;
         })
-        (k .mark) (omega (arith, headed-long, k .within))
-        (take-at (wordsOf (t .words) (drop (f .at + 8 * f .setup) bs)) (drop (length (wordsOf (t .words) (drop (f .at + 8 * f .setup) bs))) l) (t .words) copied-long ∙ copied ∙ sym (replayed-all replayed all-words)))
-        (inl
-        (drop-at (wordsOf (t .words) (drop (f .at + 8 * f .setup) bs)) (drop (length (wordsOf (t .words) (drop (f .at + 8 * f .setup) bs))) l) (t .words) copied-long
-        ∙ ap (λ (i : ℕ). drop i l) copied-long))
 
   module _ (number : ℕ) (b : List Float) (k : Unbuilt (setup bs (length a) o f h) (entries bs (length a) o f h) limit (length l) (length a) number b) where
     restore-zeroed : Restored bs (words g a l) (words g b l) (H.Answer.refused (plainRefusal number))
@@ -123,11 +130,10 @@ module _ (bs : List ℕ) (g : Fit) (a : List Float) (l : List ℕ) (o : Options)
         restores bs (words g a l) (words g b l) (H.Answer.refused (plainRefusal number)) (Reading.refusedAtEntry (plainRefusal number))
         (reading bs (length a) o f h (length l)
         ∙ ap (readingOf (setup bs (length a) o f h))
-        (refused-read (setup bs (length a) o f h) (entries bs (length a) o f h) limit (length l) number (omega (arith, entries-long bs (length a) o f h)) (k .is (h .accepted))))
+        (refused-read (setup bs (length a) o f h) (entries bs (length a) o f h) limit (length l) number (omega (arith, entries-long bs (length a) o f h)) (k .is (inl (h .accepted)))))
         (ap (λ (x : ℕ). record { area = x; log = length l }) (ap length (k .area) ∙ length-replicate (length a) zero64))
         refl
-        (record { state = refl; area = k .area; log = refl })
-        (inr refl)
+        (ap (λ (x : List Float). words g x l) (k .area))
 
   -- ---- by what is built
 

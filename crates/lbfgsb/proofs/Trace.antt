@@ -8,8 +8,9 @@
 -- 2. `every-list` is the claim from words that hold no fit, `every-opened-list` from any words, for a list that begins with an accepted opening or reading in.
 --    The induction stands in Lists, over any relation of one call; two facts of `Called` are put there, `did` and `opening`.
 -- Beside this file, from the same `Called`: InOrder has the claim with the replies in the order given, Consequences what a report says once there is a value
--- reply and no failure, Alike what lists with equal histories leave (Determined and Areas show that the words are determined), Leaves what a call does not
--- touch, Outputs what it writes, Records what is saved and read in again.
+-- reply and no failure, Alike what lists with equal histories leave (Determined and Areas show that the words are determined), Unread that scratch is not read,
+-- Exact what every call does at any words at all (demand 1), Outputs what it writes, Leaves what a refused call leaves in a history, Records what is saved and
+-- read in again (Typed: by calls whose arguments are values of their types).
 use Prim.Native.Nat.{ℕ}
 use mathlib.Core.Path.{_≡_, refl}
 use mathlib.Core.List.{List}
@@ -24,7 +25,8 @@ use Rattle.definition.specs.Record.{Lengths}
 use Rattle.definition.specs.Sound.{Sound}
 use Rattle.definition.specs.History.{Call, Answer, History}
 use Rattle.problem.specs.Setups.{setupIn}
-use Rattle.lbfgsb.specs.Words.{Words, words, lengths, replied, next, kept, asked, told, entered, saved, Held, Holds}
+use Rattle.lbfgsb.specs.Words.{Words, words, lengths, Held, Holds}
+use Rattle.lbfgsb.specs.Bridge.{replied, next, kept, asked, told, entered, saved}
 use Rattle.lbfgsb.specs.Did.{Did, Opening}
 use Rattle.lbfgsb.specs.Chain.{Chain, Blank, Opens, Allowed, Keeps, After, Demand}
 use Rattle.lbfgsb.proofs.Lists as lists

@@ -4,10 +4,10 @@
 -- The history is document 01's book (`historyAfter`, from the empty one), its replies newest first; `Ordered` has them in the order given.
 use Prim.Native.Nat.{ℕ, _+_, _-_, _*_, _≤_, _<_}
 use mathlib.Core.Path.{_≡_}
-use mathlib.Core.Bool.{true, false}
+use mathlib.Core.Bool.{Bool, true, false, cond}
 use mathlib.Core.Logic.{_↔_, _⊎_}
 use mathlib.Core.List.{List, [], _∷_, _++_}
-use mathlib.Core.Option.{none, some}
+use mathlib.Core.Option.{Option, none, some}
 use lib.Dec.{T}
 use lib.ListN.{length, take, drop, replicate}
 use lib.Ieee as Ieee
@@ -18,21 +18,19 @@ use Rattle.definition.specs.Vector.{word}
 use Rattle.definition.specs.Problem.{Setup, Refusal, dimension, orElse, projectedStart, termsOf, limitsOf}
 use Rattle.definition.specs.Compact.{wrap}
 use Rattle.definition.specs.Machine.{Reply, Question, Report, question as questionOf, report as reportOf, unreported}
-use Rattle.definition.specs.Driver.{run}
-use Rattle.definition.specs.Log.{logWords}
-use Rattle.definition.specs.Record.{Lengths, plainRefusal, recordWords, recordBytes}
+use Rattle.definition.specs.Driver.{answer, run}
+use Rattle.definition.specs.Log.{entryWords, logWords}
+use Rattle.definition.specs.Record.{Lengths, Reading, plainRefusal, readRecord, recordWords, recordBytes}
 use Rattle.definition.specs.Replies.{isValue, isNotice, isFailure, countOf, openOf, firstValue}
 use Rattle.definition.specs.Facts.{gradientsCompleted}
 use Rattle.definition.specs.Points.{lastTaken, OwnOf, InBox}
 use Rattle.definition.specs.Sound.{Sound, refusedAtEntry}
-use Rattle.definition.specs.History.{Call, Answer, History, refusalsOf, entryRefusals, among, entryAt, historyAfter, historyAnswers}
+use Rattle.definition.specs.History.{Call, Answer, History, refusalsOf, among, entryAt, historyAfter, historyAnswers}
 use Rattle.definition.specs.Ordered.{Ordered, logInOrder, orderedAfter, orderedAnswers}
-use Rattle.area.specs.Area.{Vecs, view, X, G, Lower, Upper, X0, Trial, TrialGradient, Direction}
-use Rattle.compact.specs.State.{pairAt}
 use Rattle.compact.specs.declared.Shape.{Shape}
-use Rattle.driver.specs.Replies.{isHeld, marked}
-use Rattle.lbfgsb.specs.Words.{Words, lengths, Holds}
-use Rattle.lbfgsb.specs.Did.{Zeroed}
+use Rattle.driver.specs.Replies.{isHeld, markAt, marked}
+use Rattle.lbfgsb.specs.Words.{Words, lengths, setupOf, machineIn, logIn, Stands, Holds}
+use Rattle.lbfgsb.specs.Table.{answerAt, repliesLeft, zeroed, refusedLeft}
 
 -- ---- lists of calls
 
@@ -134,19 +132,35 @@ pub record InOrder (w : Words) (cs : List Call) (os : List Answer) (w' : Words) 
 
 -- ---- any words at all (demand 1)
 
--- A call at any words gets a result, or a refusal by one of the numbers that document 01's table has for it. A refusal changes no word,
--- but that one at an entry, of a record or of an altered log, leaves the area all zero.
-pub record Answered (c : Call) (w w' : Words) (o : Answer) : Type 0 where
-  pub sized : lengths w' ≡ lengths w
-  pub number : (r : Refusal) → o ≡ Answer.refused r → among (r .number) (refusalsOf c) ≡ true
-  pub words : (r : Refusal) → o ≡ Answer.refused r → (w' ≡ w) ⊎ ((among (r .number) (entryRefusals c) ≡ true) × Zeroed w w')
+-- An accepted reply: the machine is advanced by it, the setup stays, one more reply is kept, and its entry is the log's last.
+pub record Advanced (r : Reply) (w w' : Words) : Type 0 where
+  pub machine : machineIn w' ≡ answer (machineIn w) r
+  pub setup : setupOf w' ≡ setupOf w
+  pub replies : w' .state .entries ≡ w .state .entries + 1
+  pub log : logIn w' ≡ logIn w ++ entryWords r
 
--- ---- what a call leaves as it was
+-- the setup and the replies of a record that is accepted
+abbrev pub ReadIn : Reading → Words → Type 0
+ReadIn (Reading.accepted s rs) w' = Stands w' s rs
+ReadIn (Reading.refused c) w' = ⊥
+ReadIn (Reading.refusedAtEntry c) w' = ⊥
 
--- A refused call leaves every word, but for a reading in refused at an entry, which leaves the area all zero.
-pub record Leaves (c : Call) (w w' : Words) : Type 0 where
-  pub kept : refusedAtEntry (lengths w) c ≡ false → w' ≡ w
-  pub zeroed : refusedAtEntry (lengths w) c ≡ true → Zeroed w w'
+-- the setup held, and the replies that are to stay
+abbrev pub Stay : Option (List Reply) → Words → Words → Type 0
+Stay none w w' = ⊥
+Stay (some rs) w w' = Stands w' (setupOf w) rs
+
+-- what a call that is not refused leaves: the definition's machine of the setup and the replies kept, read off state, area and log; a read leaves every word
+abbrev pub Result : Call → Words → Words → Type 0
+Result (Call.start s) w w' = Stands w' s []
+Result (Call.restore bs) w w' = ReadIn (readRecord (lengths w) bs) w'
+Result (Call.reply r) w w' = Advanced r w w'
+Result (Call.takeBack j) w w' = cond (isHeld (w .state) (w .area)) (Stay (repliesLeft j w) w w') (w' ≡ w)
+Result (Call.question room) w w' = w' ≡ w
+Result (Call.report room) w w' = w' ≡ w
+Result Call.replies w w' = w' ≡ w
+Result (Call.entry k room) w w' = w' ≡ w
+Result (Call.save room) w w' = w' ≡ w
 
 -- the last words of the log's entries are zeroed; those past them are as they were
 pub record Struck (w w' : Words) : Type 0 where
@@ -157,9 +171,9 @@ pub record Struck (w w' : Words) : Type 0 where
 abbrev pub Past : Words → Words → Type 0
 Past w w' = drop (w' .state .words) (w' .log) ≡ drop (w' .state .words) (w .log)
 
--- After each call the log's words past its last entry are as they were, those that a taking back zeroes aside.
+-- After each call the log's words past its last entry are as they were, those that a taking back zeroes aside. An opening writes none.
 abbrev pub LogPast : Call → Words → Words → Type 0
-LogPast (Call.start s) w w' = Past w w'
+LogPast (Call.start s) w w' = w' .log ≡ w .log
 LogPast (Call.restore bs) w w' = Past w w'
 LogPast (Call.reply r) w w' = Past w w'
 LogPast (Call.takeBack j) w w' = Struck w w'
@@ -168,6 +182,36 @@ LogPast (Call.report room) w w' = Past w w'
 LogPast Call.replies w w' = Past w w'
 LogPast (Call.entry k room) w w' = Past w w'
 LogPast (Call.save room) w w' = Past w w'
+
+abbrev pub isRefused : Answer → Bool
+isRefused (Answer.refused r) = true
+isRefused Answer.done = false
+isRefused (Answer.asked q) = false
+isRefused (Answer.reported r) = false
+isRefused (Answer.counted k) = false
+isRefused (Answer.entered ws) = false
+isRefused (Answer.saved bs) = false
+
+-- A call at any words at all.
+pub record Exact (c : Call) (w w' : Words) (o : Answer) : Type 0 where
+  -- the answer is the one that the table fixes: the first refusal whose condition holds, with its details, or the result
+  pub answer : o ≡ answerAt c w
+  -- a refusal changes no word, but that one at an entry leaves the area all zero
+  pub refused : isRefused o ≡ true → w' ≡ refusedLeft c w
+  pub result : isRefused o ≡ false → Result c w w'
+  pub past : LogPast c w w'
+  pub sized : lengths w' ≡ lengths w
+
+-- Its number, where it is refused, is one that the table has for its place.
+pub record Answered (c : Call) (o : Answer) : Type 0 where
+  pub number : (r : Refusal) → o ≡ Answer.refused r → among (r .number) (refusalsOf c) ≡ true
+
+-- ---- what a call leaves as it was, after a list that the history follows
+
+-- A refused call leaves every word, but for a reading in refused at an entry, which leaves the area all zero.
+pub record Leaves (c : Call) (w w' : Words) : Type 0 where
+  pub kept : refusedAtEntry (lengths w) c ≡ false → w' ≡ w
+  pub zeroed : refusedAtEntry (lengths w) c ≡ true → w' ≡ zeroed w
 
 -- ---- outputs
 
@@ -194,6 +238,13 @@ numbersOf (Answer.saved bs) = bs
 -- an output: the answer's part at its front, the rest as it was
 abbrev pub Output : {A : Type 0} → List A → List A → List A → Type 0
 Output front out out' = out' ≡ front ++ drop (length front) out
+
+-- ---- every fit held
+
+-- at most 2 maxfev + maxiter replies, and with that many the fit has ended
+pub record Bounded (s : Setup) (rs : List Reply) : Type 0 where
+  pub most : length rs ≤ 2 * limitsOf s .maxfev + limitsOf s .maxiter
+  pub ended : length rs ≡ 2 * limitsOf s .maxfev + limitsOf s .maxiter → questionOf (run s rs) ≡ none
 
 -- ---- the fit, once there is a value reply and no failure
 
@@ -222,9 +273,6 @@ pub record Fitted (s : Setup) (rs : List Reply) (r : Report) : Type 0 where
   -- within the budgets that apply
   pub values : r .nfev ≤ limitsOf s .maxfev
   pub iterations : r .nit ≤ limitsOf s .maxiter
-  -- at most 2 maxfev + maxiter replies, and with that many the fit has ended
-  pub most : length rs ≤ 2 * limitsOf s .maxfev + limitsOf s .maxiter
-  pub ended : length rs ≡ 2 * limitsOf s .maxfev + limitsOf s .maxiter → questionOf (run s rs) ≡ none
 
 -- the point of a question that is open
 pub record Asks (s : Setup) (q : Question) : Type 0 where
@@ -233,39 +281,25 @@ pub record Asks (s : Setup) (q : Question) : Type 0 where
 
 -- ---- lists alike
 
--- the named vectors of two areas are equal
-pub record Named (a b : Vecs) : Type 0 where
-  pub x : a X ≡ b X
-  pub g : a G ≡ b G
-  pub lower : a Lower ≡ b Lower
-  pub upper : a Upper ≡ b Upper
-  pub x0 : a X0 ≡ b X0
-  pub trial : a Trial ≡ b Trial
-  pub trialGradient : a TrialGradient ≡ b TrialGradient
-  pub direction : a Direction ≡ b Direction
-
--- the vectors of the area
-abbrev pub vectorsIn : Words → Vecs
-vectorsIn w = view (w .area) (w .state .shape .n)
-
--- Scratch are the area's vectors 8 to 15 (Velocity to Step), the two of a place of the ring that no pair is in, and the columns of W.
+-- Scratch are the area's vectors 8 to 15 (Velocity to Step), the two of a place of the ring that no pair is in, the columns of W, and the words behind the mark.
 -- `Unused h p`: of the pairs, oldest first, none is in place p.
 abbrev pub Unused : Shape → ℕ → Type 0
 Unused h p = (k : ℕ) → k < h .pairs → wrap (h .m) (h .oldest + k) ≡ p → ⊥
 
-pub data Scratch (h : Shape) (q : ℕ) : Type 0 where
-  between : 8 ≤ q → q < 16 → Scratch h q
-  place : (p : ℕ) → p < h .m → Unused h p → (q ≡ 16 + 2 * p) ⊎ (q ≡ 16 + 2 * p + 1) → Scratch h q
-  column : 16 + 2 * h .m ≤ q → Scratch h q
+pub data ScratchVector (h : Shape) (q : ℕ) : Type 0 where
+  between : 8 ≤ q → q < 16 → ScratchVector h q
+  place : (p : ℕ) → p < h .m → Unused h p → (q ≡ 16 + 2 * p) ⊎ (q ≡ 16 + 2 * p + 1) → ScratchVector h q
+  column : 16 + 2 * h .m ≤ q → q < 16 + 4 * h .m → ScratchVector h q
 
--- Two words agree, scratch aside: all of the state, each vector of the area that is not scratch, the mark behind the vectors, and the log up to its last entry.
--- What stands behind the mark is scratch too.
+-- word i of the area
+pub data Scratch (h : Shape) (i : ℕ) : Type 0 where
+  within : (q k : ℕ) → i ≡ q * h .n + k → k < h .n → ScratchVector h q → Scratch h i
+  behind : markAt h < i → Scratch h i
+
+-- Two words agree, scratch aside: all of the state, every word of the area that is not scratch, and the log up to its last entry.
 pub record Agree (w v : Words) : Type 0 where
   pub state : w .state ≡ v .state
-  pub area : (q : ℕ) → q < 16 + 4 * w .state .shape .m → Scratch (w .state .shape) q ⊎ (vectorsIn w q ≡ vectorsIn v q)
-  -- the vectors with names, and the pairs in use, oldest first
-  pub named : Named (vectorsIn w) (vectorsIn v)
-  pub pairs : (k : ℕ) → k < w .state .shape .pairs → pairAt (w .state .shape) (vectorsIn w) k ≡ pairAt (w .state .shape) (vectorsIn v) k
+  pub area : (i : ℕ) → i < length (w .area) → (i ≡ markAt (w .state .shape) → ⊥) → Scratch (w .state .shape) i ⊎ (word (w .area) i ≡ word (v .area) i)
   -- the mark is 1 in both (Areas.mark-same: the same word, in areas of binary64)
   pub mark : (marked (w .state .shape) (w .area) ≡ true) × (marked (v .state .shape) (v .area) ≡ true)
   pub log : take (w .state .words) (w .log) ≡ take (v .state .words) (v .log)

@@ -1,80 +1,10 @@
--- The words between two calls: the history that they hold, and the history's answer read off the code's.
-use Prim.Native.Nat.{ℕ, zero, suc}
+-- The words between two calls, and the history that they hold.
 use mathlib.Core.Path.{_≡_}
 use mathlib.Core.Bool.{false}
-use mathlib.Core.List.{List, [], _∷_}
-use mathlib.Core.Option.{none, some}
-use lib.ListN.{take}
-use lib.Ieee.{Float}
-use Rattle.definition.specs.Problem as P
-use Rattle.definition.specs.Record.{plainRefusal}
-use Rattle.definition.specs.History as H
 use Rattle.definition.specs.History.{History}
-use Rattle.problem.specs.Setups.{refusalOf}
-use Rattle.fit.specs.declared.Fit.{Fit}
-use Rattle.question.specs.Reports.{reportOf}
 use Rattle.driver.specs.Replies.{isHeld}
-use Rattle.replay.specs.declared.Replayed.{Replayed}
-use Rattle.replay.specs.declared.Replayed.the-variants as D
-use Rattle.lbfgsb.specs.declared.Answer.{Answer}
-use Rattle.lbfgsb.specs.declared.Answer.the-variants as A
-use Rattle.lbfgsb.specs.declared.Asked.{Asked}
-use Rattle.lbfgsb.specs.declared.Asked.the-variants as Q
-use Rattle.lbfgsb.specs.declared.Told.{Told}
-use Rattle.lbfgsb.specs.declared.Told.the-variants as T
-use Rattle.lbfgsb.specs.declared.Wrote.{Wrote}
-use Rattle.lbfgsb.specs.declared.Wrote.the-variants as W
-pub use Rattle.held.specs.Words.{Words, words, lengths, setupOf, machineIn, logIn, Held}
-pub use Rattle.replay.specs.Taken.{replied}
+pub use Rattle.held.specs.Words.{Words, words, lengths, setupOf, machineIn, logIn, Stands, Held}
 
 abbrev pub Holds : Words → History → Type 0
 Holds w History.empty = isHeld (w .state) (w .area) ≡ false
 Holds w (History.fit s rs) = Held w s rs
-
--- ---- answers
-
--- the state to go on with
-abbrev pub next : Fit → Answer → Fit
-next t (A.Kept g) = g
-next t (A.Refused c) = t
-
-abbrev pub kept : Answer → H.Answer
-kept (A.Kept g) = H.Answer.done
-kept (A.Refused c) = H.Answer.refused (refusalOf c)
-
--- the same of a fit built anew
-abbrev pub nextBy : Fit → Replayed → Fit
-nextBy t (D.Done f) = f
-nextBy t (D.Refused c) = t
-
-abbrev pub keptBy : Replayed → H.Answer
-keptBy (D.Done f) = H.Answer.done
-keptBy (D.Refused c) = H.Answer.refused (plainRefusal c)
-
--- a refusal with no second detail
-abbrev pub refusalBy : ℕ → ℕ → P.Refusal
-refusalBy number first = record { number = number; first = first; second = 0 }
-
--- n coordinates from the front of the output
-abbrev pub asked : Asked → ℕ → List Float → H.Answer
-asked Q.Nothing n out = H.Answer.asked none
-asked (Q.Is k) n out = H.Answer.asked (some (record { kind = k; point = take n out }))
-asked (Q.Refused c) n out = H.Answer.refused (refusalOf c)
-
-abbrev pub told : Told → ℕ → List Float → H.Answer
-told (T.Is o) n out = H.Answer.reported (reportOf o (take n out))
-told (T.Refused c) n out = H.Answer.refused (refusalOf c)
-
--- The first k words of an output: k of them whatever its length, so that an answer tells the number that was returned.
-abbrev pub firstOf : ℕ → List ℕ → List ℕ
-firstOf zero out = []
-firstOf (suc k) [] = 0 ∷ firstOf k []
-firstOf (suc k) (x ∷ out) = x ∷ firstOf k out
-
-abbrev pub entered : Wrote → List ℕ → H.Answer
-entered (W.Is k) out = H.Answer.entered (firstOf k out)
-entered (W.Refused c) out = H.Answer.refused (refusalOf c)
-
-abbrev pub saved : Wrote → List ℕ → H.Answer
-saved (W.Is k) out = H.Answer.saved (firstOf k out)
-saved (W.Refused c) out = H.Answer.refused (refusalOf c)

@@ -5,10 +5,10 @@ ghost use mathlib.Core.List.{List};
 ghost use Prim.Native.Nat.{ℕ, _+_, _-_, _*_};
 ghost use lib.ListN.{length};
 ghost use Rattle.definition.specs.History.{Call};
-ghost use Rattle.problem.specs.Setups.{setupIn, refusalOf};
 ghost use Rattle.fit.specs.declared.Fit.{Fit};
-ghost use Rattle.lbfgsb.specs.Words.{words, replied, refusalBy, next, nextBy, kept, keptBy, asked, told, entered, saved};
-ghost use Rattle.lbfgsb.specs.Did.{Started, Restored, Replied, TakenBack, Read, Counted, questionAnswer, reportAnswer, entryAnswer, saveAnswer};
+ghost use Rattle.lbfgsb.specs.Words.{words};
+ghost use Rattle.lbfgsb.specs.Bridge.{setupIn, refusalOf, replied, refusalBy, next, nextBy, kept, keptBy, asked, told, entered, saved};
+ghost use Rattle.lbfgsb.specs.Did.{Started, Restored, Replied, TakenBack, Read, Counted};
 use driver::Reply;
 use fit::Fit;
 use problem::Checked;
@@ -144,7 +144,7 @@ pub fn restore(fit: Fit, area: &mut [f64], log: &mut [u64], input: &[u8]) -> Ans
 // The open question: its kind, and its point in the front of the output. Nothing where no fit is held or it has ended.
 // Refused: 19 where a question is open and the output has fewer than n floats.
 pub fn question(fit: Fit, area: &[f64], out: &mut [f64]) -> Asked
-    ensures { λ r. ⌜ ((l : List ℕ) → Read (Call.question (length (now (out .entry)))) (words fit (now (area .entry)) l) (asked r (fit .shape .n) (now (out .exit))) (questionAnswer (words fit (now (area .entry)) l) (length (now (out .entry)))) (now (out .entry)) (now (out .exit))) ⌝ }
+    ensures { λ r. ⌜ ((l : List ℕ) → Read (Call.question (length (now (out .entry)))) (words fit (now (area .entry)) l) (asked r (fit .shape .n) (now (out .exit))) (now (out .entry)) (now (out .exit))) ⌝ }
 {
     if !driver::is_held(fit, area) {
         return Asked::Nothing;
@@ -165,7 +165,7 @@ pub fn question(fit: Fit, area: &[f64], out: &mut [f64]) -> Asked
 // The report, its point in the front of the output.
 // Refused: 15 where no fit is held, there is no value reply yet or the objective failed; 19 where the output has fewer than n floats.
 pub fn report(fit: Fit, area: &[f64], out: &mut [f64]) -> Told
-    ensures { λ r. ⌜ ((l : List ℕ) → Read (Call.report (length (now (out .entry)))) (words fit (now (area .entry)) l) (told r (fit .shape .n) (now (out .exit))) (reportAnswer (words fit (now (area .entry)) l) (length (now (out .entry)))) (now (out .entry)) (now (out .exit))) ⌝ }
+    ensures { λ r. ⌜ ((l : List ℕ) → Read (Call.report (length (now (out .entry)))) (words fit (now (area .entry)) l) (told r (fit .shape .n) (now (out .exit))) (now (out .entry)) (now (out .exit))) ⌝ }
 {
     if !driver::is_held(fit, area) {
         return Told::Refused(refusal(15, 0));
@@ -195,7 +195,7 @@ pub fn replies(fit: Fit, area: &[f64]) -> usize
 // The words of entry k, from 0 the oldest, in the front of the output; none where there is no such entry or no fit is held.
 // Refused: 12 where the log is shorter than its entries; 19 where the output is shorter than this one.
 pub fn entry(fit: Fit, area: &[f64], log: &[u64], k: usize, out: &mut [u64]) -> Wrote
-    ensures { λ r. ⌜ Read (Call.entry k (length (now (out .entry)))) (words fit (now (area .entry)) (now (log .entry))) (entered r (now (out .exit))) (entryAnswer (words fit (now (area .entry)) (now (log .entry))) k (length (now (out .entry)))) (now (out .entry)) (now (out .exit)) ⌝ }
+    ensures { λ r. ⌜ Read (Call.entry k (length (now (out .entry)))) (words fit (now (area .entry)) (now (log .entry))) (entered r (now (out .exit))) (now (out .entry)) (now (out .exit)) ⌝ }
 {
     if !driver::is_held(fit, area) {
         return Wrote::Is(0);
@@ -220,7 +220,7 @@ pub fn entry(fit: Fit, area: &[f64], log: &[u64], k: usize, out: &mut [u64]) -> 
 // The record of setup and log, in bytes in the front of the output; nothing where no fit is held.
 // Refused: 12 where the log is shorter than its entries; 19 where the output is shorter than the record.
 pub fn save(fit: Fit, area: &[f64], log: &[u64], out: &mut [u8]) -> Wrote
-    ensures { λ r. ⌜ Read (Call.save (length (now (out .entry)))) (words fit (now (area .entry)) (now (log .entry))) (saved r (now (out .exit))) (saveAnswer (words fit (now (area .entry)) (now (log .entry))) (length (now (out .entry)))) (now (out .entry)) (now (out .exit)) ⌝ }
+    ensures { λ r. ⌜ Read (Call.save (length (now (out .entry)))) (words fit (now (area .entry)) (now (log .entry))) (saved r (now (out .exit))) (now (out .entry)) (now (out .exit)) ⌝ }
 {
     if !driver::is_held(fit, area) {
         return Wrote::Is(0);

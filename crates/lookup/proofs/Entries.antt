@@ -20,10 +20,10 @@ use Rattle.definition.specs.Replies.{Due}
 use Rattle.definition.specs.History.{entryAt}
 use Rattle.definition.proofs.Accepted.{due-length}
 use Rattle.definition.proofs.Counts.{terms-stay}
+use Rattle.definition.proofs.Entries.{words-some}
 use Rattle.record.specs.Records.{entrySize}
 use Rattle.record.proofs.Entry.{entry-none, entry-some}
 use Rattle.question.specs.Reports.{written}
-use Rattle.replay.proofs.Entries.{words-some}
 use Rattle.lookup.specs.Reading.{wordsOfEntry, frontEntry, entryIn, Begins}
 
 -- ---- the entry that begins a list of words

@@ -4,7 +4,7 @@ use Prim.Native.Nat.{ℕ, _+_, _-_, _*_, _≤_, _<_}
 use native.Mathlib.Omega.{arith}
 use mathlib.Core.Path.{_≡_, refl, sym, ap, _∙_, subst}
 use mathlib.Core.Bool.{true}
-use mathlib.Core.Logic.{⊎-elim}
+use mathlib.Core.Logic.{inr, ⊎-elim}
 use mathlib.Core.List.{List}
 use lib.Dec.{ltb}
 use lib.ListN.{length, take, drop, replicate, length-drop}
@@ -30,7 +30,7 @@ use Rattle.fit.specs.declared.Phase.{Phase}
 use Rattle.fit.specs.declared.Phase.the-variants.{Value, Gradient, Probe, Notice, Ended}
 use Rattle.question.specs.Reports.{Within}
 use Rattle.opening.specs.Opened.{setupAt, Room, Fits, Opened}
-use Rattle.driver.specs.Replies.{shapeHeld, isReady, Marks}
+use Rattle.driver.specs.Replies.{shapeHeld, mostWords, isReady, Marks}
 use Rattle.driver.proofs.Laws.{and-l, and-r, ready-facts, facts-ready, shape-again, marked-machine}
 use Rattle.record.specs.Records.{setupFrom}
 use Rattle.replay.specs.Replays.{Keeps, Replays}
@@ -176,7 +176,7 @@ module _ {o : Options} {n : ℕ} {s : Setup} {t : Fit} {a : List Float} (k : Ope
           within = kept .within;
           stopped = kept .stopped;
           is = λ e.
-              let r = h .is s e opened-setup (k .is) in
+              let r = h .is s e (k .is) in
               record {
                 replies = r .replies;
                 after = r .after ∙ ap (Entries.going (drop (f .words) ws) (r .replies)) (sym same);
@@ -185,6 +185,7 @@ module _ {o : Options} {n : ℕ} {s : Setup} {t : Fit} {a : List Float} (k : Ope
                 spelled = r .spelled;
                 entries = r .entries;
                 words = r .words;
+                ready = rw (m .size) (r .ready);
               };
         }
 
@@ -192,33 +193,43 @@ module _ {o : Options} {n : ℕ} {s : Setup} {t : Fit} {a : List Float} (k : Ope
     unbuilt h z = record {
       which = h .kept;
       area = z ∙ ap (λ (i : ℕ). replicate i zero64) (h .size);
-      is = λ e. h .is s e opened-setup (k .is);
+      is = λ e. h .is s e (k .is);
     }
 
     pub builds : (r : Replayed) (b c : List Float) → Replays t a ws limit room r b → Settles r b c → Builds s ws limit room (length a) r c
     builds (R.Done f) b c h m = built h m
     builds (R.Refused i) b c h m = unbuilt h m
 
-    -- of entries that are all to stay
-    cut-short : {f : Fit} {b d : List Float} → Replays t a ws limit room (R.Done f) b → f .entries < limit → d ≡ zeroed b → Cut s ws limit room (length a) 17 d
-    cut-short h l z = record {
-      which = refl;
-      area = z ∙ ap (λ (i : ℕ). replicate i zero64) (h .size);
-      is = λ e. short-kept limit (h .is s e opened-setup (k .is)) (⊎-elim (λ w. w) (λ w. absurd (omega (arith, w))) (h .kept .stopped)) l;
-    }
+    -- of entries that are all to stay, of few words
+    module _ (few : length ws < mostWords) (fits : length ws ≤ room) where
+      cut-short : {f : Fit} {b d : List Float} → Replays t a ws limit room (R.Done f) b → f .entries < limit → d ≡ zeroed b
+          → Cut s ws limit room (length a) 17 d
+      cut-short h l z = record {
+        which = refl;
+        area = z ∙ ap (λ (i : ℕ). replicate i zero64) (h .size);
+        is = short-kept limit (h .is s (inr few) (k .is)) (⊎-elim (λ w. w) (λ w. absurd (omega (arith, w))) (h .kept .stopped)) l;
+      }
 
-    stays : length ws ≤ room → (r : Replayed) (b c : List Float) → Replays t a ws limit room r b → Settles (allOf r limit) b c → Stays s ws limit room (length a) (allOf r limit) c
-    stays fits (R.Refused i) b c h m =
-        let u = unbuilt h m in
-        record { which = ⊎-elim (λ e. e) (λ e. absurd (omega (arith, e .1))) (u .which); area = u .area; is = λ e. refused-kept s ws limit room i (u .is e) }
-    stays fits (R.Done f) b c h m =
-        by-test (λ (q : Replayed). Settles q b c → Stays s ws limit room (length a) q c) (ltb (f .entries) limit)
-        (λ e z. cut-short h (ltb-true (f .entries) limit e) z)
-        (λ e z. (built h z, omega (arith, ltb-false (f .entries) limit e, h .kept .few)))
-        m
+      all-stay : {f : Fit} {b c : List Float} → Replays t a ws limit room (R.Done f) b → limit ≤ f .entries → Marks (f .shape) b c
+          → Stays s ws limit room (length a) (R.Done f) c
+      all-stay h l m = let r = built h m in (r, omega (arith, h .kept .few), r .is (inr few))
 
-    pub stays-by : length ws ≤ room → (r : Replayed) (b c : List Float) → Replays t a ws limit room r b → (q : Replayed) → q ≡ allOf r limit → Settles q b c → Stays s ws limit room (length a) q c
-    stays-by fits r b c h q e m = subst (λ (x : Replayed). Stays s ws limit room (length a) x c) (sym e) (stays fits r b c h (subst (λ (x : Replayed). Settles x b c) e m))
+      stays : (r : Replayed) (b c : List Float) → Replays t a ws limit room r b → Settles (allOf r limit) b c
+          → Stays s ws limit room (length a) (allOf r limit) c
+      stays (R.Refused i) b c h m =
+          let u = unbuilt h m in
+          let which = ⊎-elim (λ e. e) (λ e. absurd (omega (arith, e .1))) (u .which) in
+          record { which = which; area = u .area; is = refused-kept s ws limit room i (u .is (inr few)) }
+      stays (R.Done f) b c h m =
+          by-test (λ (q : Replayed). Settles q b c → Stays s ws limit room (length a) q c) (ltb (f .entries) limit)
+          (λ e z. cut-short h (ltb-true (f .entries) limit e) z)
+          (λ e z. all-stay h (ltb-false (f .entries) limit e) z)
+          m
+
+      pub stays-by : (r : Replayed) (b c : List Float) → Replays t a ws limit room r b → (q : Replayed) → q ≡ allOf r limit → Settles q b c
+          → Stays s ws limit room (length a) q c
+      stays-by r b c h q e m =
+          subst (λ (x : Replayed). Stays s ws limit room (length a) x c) (sym e) (stays r b c h (subst (λ (x : Replayed). Settles x b c) e m))
 
 -- the fit has no more words than were replayed
 pub built-fewer : {s : Setup} {limit room size : ℕ} {f : Fit} {b : List Float} (k : ℕ) (l : List ℕ) → Built s (take k l) limit room size f b → k ≤ length l → f .words ≤ k

@@ -17,7 +17,6 @@ use Rattle.definition.proofs.Entries.{log-more, log-back, entry-read, read-kept
 use Rattle.definition.proofs.Histories.{due-struck, log-struck}
 use Rattle.fit.specs.State.{machineOf}
 use Rattle.fit.specs.declared.Fit.{Fit}
-use Rattle.replay.proofs.Entries.{words-some}
 use Rattle.replay.specs.Replays.{ReplayedTo, RefusedAt}
 
 -- ---- a log, entry by entry
@@ -45,10 +44,6 @@ log-front (suc j) (r ∷ rs) =
     ap (λ (ws : List ℕ). p ++ ws) (drop-append-le (length p) (logWords rs) (entryWords r) (log-struck j rs))
     ∙ sym (append-assoc p (behind j rs) (entryWords r))
     ∙ ap (λ (ws : List ℕ). ws ++ entryWords r) (log-front j rs)
-
-pub entries-most : (rs : List Reply) → length rs ≤ length (logWords rs)
-entries-most [] = omega arith
-entries-most (r ∷ rs) = omega (arith, entries-most rs, log-more r rs, words-some r)
 
 -- ---- the entries that are to stay
 

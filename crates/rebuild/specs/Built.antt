@@ -13,7 +13,6 @@ use Rattle.definition.specs.Problem as P
 use Rattle.definition.specs.Problem.{areaNeeded}
 use Rattle.definition.specs.Log.{entriesKept}
 use Rattle.definition.specs.Record.{wordsOf}
-use Rattle.definition.specs.Replies.{Accepted}
 use Rattle.area.specs.Area.{view}
 use Rattle.compact.specs.State.{Sound}
 use Rattle.search.specs.State.{Settled}
@@ -21,7 +20,7 @@ use Rattle.fit.specs.declared.Fit.{Fit}
 use Rattle.opening.specs.Opened.{setupAt}
 use Rattle.driver.specs.Replies.{shapeHeld, marked, Marks}
 use Rattle.record.specs.declared.Frame.{Frame}
-use Rattle.replay.specs.Replays.{ReplayedTo, RefusedAt}
+use Rattle.replay.specs.Replays.{Replayable, ReplayedTo, RefusedAt}
 use Rattle.replay.specs.declared.Replayed.{Replayed}
 use Rattle.replay.specs.declared.Replayed.the-variants as R
 
@@ -71,13 +70,13 @@ pub record Built (s : P.Setup) (ws : List ℕ) (limit room size : ℕ) (f : Fit)
   pub words : f .words ≤ length ws
   pub within : f .words ≤ room
   pub stopped : (f .words ≡ length ws) ⊎ (f .entries ≡ limit)
-  pub is : Accepted s → ReplayedTo s ws room f b
+  pub is : Replayable s ws → ReplayedTo s ws room f b
 
 -- an entry is refused, for want of room only where there are more words than room: the area is zero
 pub record Unbuilt (s : P.Setup) (ws : List ℕ) (limit room size number : ℕ) (b : List Float) : Type 0 where
   pub which : (number ≡ 17) ⊎ ((number ≡ 12) × (room < length ws))
   pub area : b ≡ replicate size zero64
-  pub is : Accepted s → RefusedAt s ws limit room number
+  pub is : Replayable s ws → RefusedAt s ws limit room number
 
 abbrev pub Builds : P.Setup → List ℕ → ℕ → ℕ → ℕ → Replayed → List Float → Type 0
 Builds s ws limit room size (R.Done f) b = Built s ws limit room size f b
@@ -87,11 +86,11 @@ Builds s ws limit room size (R.Refused c) b = Unbuilt s ws limit room size c b
 pub record Cut (s : P.Setup) (ws : List ℕ) (count room size number : ℕ) (b : List Float) : Type 0 where
   pub which : number ≡ 17
   pub area : b ≡ replicate size zero64
-  pub is : Accepted s → entriesKept s room count ws ≡ none
+  pub is : entriesKept s room count ws ≡ none
 
--- of a log's first `count` entries, all of which are to stay: the fit of just as many, or none
+-- of a log's first `count` entries, all of which are to stay: the fit of just as many, or none; with any setup, as the definition reads them
 abbrev pub Stays : P.Setup → List ℕ → ℕ → ℕ → ℕ → Replayed → List Float → Type 0
-Stays s ws count room size (R.Done f) b = Built s ws count room size f b × (f .entries ≡ count)
+Stays s ws count room size (R.Done f) b = Built s ws count room size f b × (f .entries ≡ count) × ReplayedTo s ws room f b
 Stays s ws count room size (R.Refused c) b = Cut s ws count room size c b
 
 -- ---- the log

@@ -2,7 +2,7 @@
 use mathlib.Core.Path.{_≡_, refl, sym, ap, _∙_, subst}
 use mathlib.Core.Bool.{true}
 use mathlib.Core.List.{List, [], _∷_, map}
-use Prim.Native.Nat.{ℕ, _<_}
+use Prim.Native.Nat.{ℕ}
 use native.Mathlib.Omega.{arith}
 use denote.Enum.Declared.{tagOf}
 use types.Run.{OneOf, miss}
@@ -13,6 +13,7 @@ use Rattle.definition.specs.Machine as M
 use Rattle.definition.specs.Driver as D
 use Rattle.definition.specs.Driver.{move, learn, valued}
 use Rattle.definition.proofs.Leads.{Leads, Known, answer-leads}
+use Rattle.definition.proofs.Probed.{InRange}
 use Rattle.area.specs.Area.{Vecs, view, upd, TrialGradient}
 use Rattle.fit.specs.State.{machine, machineOf, phaseOf, Steps}
 use Rattle.fit.specs.declared.Fit.{Fit}
@@ -28,14 +29,6 @@ use Rattle.driver.proofs.Steps.{gradient-answered}
 use Rattle.replay.specs.Taken.{replied, isDue}
 
 -- ---- the terms stay
-
--- a probe is of a coordinate that there is
-abbrev InRange : M.Phase → ℕ → Type 0
-InRange (M.Phase.value w) n = Unit {0}
-InRange (M.Phase.gradient w) n = Unit {0}
-InRange (M.Phase.probe w i side) n = i < n
-InRange M.Phase.notice n = Unit {0}
-InRange (M.Phase.ended t) n = Unit {0}
 
 in-range : (p : Phase) (n : ℕ) → Within p n → InRange (phaseOf p) n
 in-range (Value w) n h = tt

@@ -13,6 +13,7 @@ use Rattle.definition.specs.Machine as M
 use Rattle.definition.specs.Machine.{suits, takes, checkDue}
 use Rattle.definition.specs.Driver as D
 use Rattle.definition.specs.Log.{Entries, entryOf, entryWords, logWords, admit, nextEntry}
+use Rattle.definition.proofs.Entries.{words-some}
 use Rattle.driver.specs.Replies.{replyOf}
 use Rattle.driver.specs.declared.Reply.{Reply}
 use Rattle.driver.specs.declared.Reply.the-variants as R
@@ -162,14 +163,6 @@ reads-most {n} {r = r} h = omega (arith, h .size, size-most r n)
 -- a gradient's words stand behind its kind
 pub gradient-fits : (r : Reply) (n at k : ℕ) → r ≡ R.Gradient → at + sizeOf r n ≤ k → at + 1 + n ≤ k
 gradient-fits r n at k e h = let size : sizeOf r n ≡ n + 1 = ap (λ (q : Reply). sizeOf q n) e in omega (arith, size)
-
-pub words-some : (r : M.Reply) → 1 ≤ length (entryWords r)
-words-some (M.Reply.value v) = omega arith
-words-some (M.Reply.gradient ws) = omega arith
-words-some M.Reply.notSupplied = omega arith
-words-some M.Reply.goOn = omega arith
-words-some M.Reply.stop = omega arith
-words-some M.Reply.failure = omega arith
 
 -- ---- whether it is due
 

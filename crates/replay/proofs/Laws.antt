@@ -11,28 +11,27 @@ use lib.Dec.{ltb}
 use lib.ListN.{length, getD, drop}
 use lib.Ieee.{Float}
 use Rattle.definition.specs.Problem as P
-use Rattle.definition.specs.Problem.{areaWords, areaNeeded}
 use Rattle.definition.specs.Machine as M
 use Rattle.definition.specs.Driver as D
-use Rattle.definition.specs.Driver.{begin, run}
+use Rattle.definition.specs.Driver.{run}
 use Rattle.definition.specs.Log.{Entries, entryOf, entryWords, logWords}
-use Rattle.definition.specs.Replies.{Accepted}
-use Rattle.definition.proofs.Entries.{log-more}
+use Rattle.definition.specs.Replies.{Due}
+use Rattle.definition.proofs.Entries.{log-more, words-some}
 use Rattle.area.specs.Area.{view, X0}
 use Rattle.compact.specs.State.{Sound}
-use Rattle.problem.specs.Setups.{setupIn}
+use Rattle.problem.specs.Setups.{placesIn}
 use Rattle.search.specs.State.{Settled}
 use Rattle.fit.specs.State.{machineOf, phaseOf, Steps}
 use Rattle.fit.specs.declared.Fit.{Fit}
 use Rattle.question.specs.Reports.{Within}
-use Rattle.driver.specs.Replies.{shapeHeld, isReady, replyOf}
+use Rattle.driver.specs.Replies.{shapeHeld, mostWords, isReady, replyOf}
 use Rattle.driver.specs.declared.Reply.{Reply}
-use Rattle.driver.proofs.Laws.{ready-facts, shape-again, run-ready}
+use Rattle.driver.proofs.Laws.{ready-facts, shape-again, few-ready, log-few}
 use Rattle.replay.specs.declared.Replayed.{Replayed}
 use Rattle.replay.specs.declared.Replayed.the-variants.{Done, Refused}
-use Rattle.replay.specs.Replays.{withLog, oneMore, afterEntries, firstEntries, setupHeld, ReplayedTo, Replays}
+use Rattle.replay.specs.Replays.{withLog, oneMore, afterEntries, firstEntries, Replayable, ReplayedTo, Replays}
 use Rattle.replay.specs.Taken.{replied, gradientAt, Reads, isDue, admission, Took, RefusedBy, NextIs, Run}
-use Rattle.replay.proofs.Entries.{reads-count, words-some, suits-replied, suits-any, due-checked, next-bad, next-undue, next-short, next-going}
+use Rattle.replay.proofs.Entries.{reads-count, suits-replied, suits-any, due-checked, next-bad, next-undue, next-short, next-going}
 use Rattle.replay.proofs.Answers.{terms-stay}
 
 -- ---- admission
@@ -150,19 +149,17 @@ took-more h = omega (arith, h .words, words-some (h .reply))
 pub record Reached (t : Fit) (a : List Float) (ws : List ℕ) (limit room : ℕ) (f : Fit) (b : List Float) : Type 0 where
   pub size : length b ≡ length a
   pub small : t .shape .n ≤ 64
-  pub area : areaWords (t .shape .n) (t .shape .m) ≤ length a
   pub options : f .options ≡ t .options
   pub n : f .shape .n ≡ t .shape .n
   pub m : f .shape .m ≡ t .shape .m
   pub shape : shapeHeld (f .shape) (length b) ≡ true
-  pub sound : Sound (f .shape) (length b)
   pub settled : Settled (t .search) (t .trials) → Settled (f .search) (f .trials)
   pub x0 : view b (t .shape .n) X0 ≡ view a (t .shape .n) X0
   pub terms : machineOf f b .terms ≡ machineOf t a .terms
   pub few : f .entries ≤ limit
   pub words : f .words ≤ length ws
   pub within : f .words ≤ room
-  pub is : (s : P.Setup) → Accepted s → setupHeld t a ≡ s → machineOf t a ≡ D.begin s → ReplayedTo s ws room f b
+  pub is : (s : P.Setup) → Replayable s ws → machineOf t a ≡ D.begin s → ReplayedTo s ws room f b
 
 pub reached-first : (t : Fit) (a : List Float) (ws : List ℕ) (limit room : ℕ) → isReady t (length a) ≡ true → t .entries ≡ 0 → t .words ≡ 0
     → Reached t a ws limit room t a
@@ -173,19 +170,17 @@ reached-first t a ws limit room h e w =
     record {
       size = refl;
       small = ready .ready .n;
-      area = ready .area;
       options = refl;
       n = refl;
       m = refl;
       shape = ready .shape;
-      sound = ready .ready .sound;
       settled = λ s. s;
       x0 = refl;
       terms = refl;
       few = omega arith;
       words = omega arith;
       within = omega arith;
-      is = λ s c o k. record {
+      is = λ s c k. record {
         replies = [];
         after =
             ap (λ (i : ℕ). afterEntries i room (firstEntries s ws)) e
@@ -195,28 +190,42 @@ reached-first t a ws limit room h e w =
         spelled = none;
         entries = e;
         words = w;
+        ready = h;
       };
     }
 
+-- the words replayed are no more than the test lets pass
+few-words : (s : P.Setup) (ws : List ℕ) (rs : List M.Reply) (k : ℕ) → Replayable s ws → Due s rs → k ≡ length (logWords rs) → k ≤ length ws → k < mostWords
+few-words s ws rs k (inl c) d e h = omega (arith, log-few s rs c d)
+few-words s ws rs k (inr l) d e h = omega arith
+
 -- one entry more
-replayed-more : {s : P.Setup} {ws : List ℕ} {room : ℕ} {f g : Fit} {b d : List Float} → ReplayedTo s ws room f b → Took f b ws room g d → ReplayedTo s ws room g d
+replayed-more : {s : P.Setup} {ws : List ℕ} {room : ℕ} {f g : Fit} {b d : List Float}
+    → Replayable s ws → ReplayedTo s ws room f b → Took f b ws room g d → ReplayedTo s ws room g d
 unfolding afterEntries logWords run
-replayed-more {s} {ws} {room} {f} {g} {b} {d} h k =
+replayed-more {s} {ws} {room} {f} {g} {b} {d} c h k =
+    let rs = k .reply ∷ h .replies in
     let more : g .entries ≡ suc (f .entries) = k .entries ∙ omega arith in
+    let due : Due s rs = (ap (λ (m : M.Machine). M.checkDue m (k .reply)) (sym (h .is)) ∙ k .due, h .due) in
+    let is : machineOf g d ≡ run s rs = k .is ∙ ap (λ (m : M.Machine). D.answer m (k .reply)) (h .is) in
+    let entries : g .entries ≡ length rs = more ∙ ap suc (h .entries) in
+    let words : g .words ≡ length (logWords rs) = omega (arith, k .words, h .words, log-more (k .reply) (h .replies)) in
+    let places : placesIn (g .options) ≡ g .shape .m = ap placesIn (k .options) ∙ ready-facts f (length b) (h .ready) .places ∙ sym (k .m) in
     record {
-      replies = k .reply ∷ h .replies;
+      replies = rs;
       after =
           ap (λ (i : ℕ). afterEntries i room (firstEntries s ws)) more
           ∙ ap (oneMore room) (h .after)
           ∙ k .next (h .replies) (h .words);
-      due = (ap (λ (m : M.Machine). M.checkDue m (k .reply)) (sym (h .is)) ∙ k .due, h .due);
-      is = k .is ∙ ap (λ (m : M.Machine). D.answer m (k .reply)) (h .is);
+      due = due;
+      is = is;
       spelled =
           append-assoc (logWords (h .replies)) (entryWords (k .reply)) (drop (g .words) ws)
           ∙ ap (λ (l : List ℕ). logWords (h .replies) ++ l) (k .spelled)
           ∙ h .spelled;
-      entries = more ∙ ap suc (h .entries);
-      words = omega (arith, k .words, h .words, log-more (k .reply) (h .replies));
+      entries = entries;
+      words = words;
+      ready = few-ready g (length d) d s rs due is (k .shape) places entries words (few-words s ws rs (g .words) c due words (k .last));
     }
 
 pub reached-more : {t f g : Fit} {a b d : List Float} {ws : List ℕ} {limit room : ℕ}
@@ -224,19 +233,17 @@ pub reached-more : {t f g : Fit} {a b d : List Float} {ws : List ℕ} {limit roo
 reached-more {t} {f} {g} {a} {b} {d} h l size k = record {
   size = size ∙ h .size;
   small = h .small;
-  area = h .area;
   options = k .options ∙ h .options;
   n = k .n ∙ h .n;
   m = k .m ∙ h .m;
   shape = k .shape;
-  sound = k .sound;
   settled = λ s. k .settled (h .settled s);
   x0 = (rw (h .n) at (k .x0)) ∙ h .x0;
   terms = k .terms ∙ h .terms;
   few = omega (arith, k .entries);
   words = k .last;
   within = k .within;
-  is = λ s c o e. replayed-more (h .is s c o e) k;
+  is = λ s c e. replayed-more c (h .is s c e) k;
 }
 
 pub reached-run : {t f g : Fit} {a b d : List Float} {ws : List ℕ} {limit room : ℕ}
@@ -245,23 +252,6 @@ reached-run h Run.begun = h
 reached-run h (Run.taken f b g d r l size k) = reached-more (reached-run h r) l size k
 
 -- ---- the end
-
--- the setup is held as it was
-setup-held : {t f : Fit} {a b : List Float} {ws : List ℕ} {limit room : ℕ} → Reached t a ws limit room f b → setupHeld f b ≡ setupHeld t a
-setup-held {t} {f} {a} {b} h =
-    let x0 : view b (f .shape .n) X0 ≡ view a (t .shape .n) X0 = ap (λ (k : ℕ). view b k X0) (h .n) ∙ h .x0 in
-    λ i. setupIn (h .options i) (x0 i) (h .terms i .bounds .lower) (h .terms i .bounds .upper)
-
-area-held : (t : Fit) (a : List Float) (s : P.Setup) → machineOf t a ≡ D.begin s → areaWords (t .shape .n) (t .shape .m) ≡ areaNeeded s
-unfolding begin
-area-held t a s e = λ i. areaWords (e i .terms .n) (e i .terms .maxcor)
-
--- the fit of an accepted setup passes the test
-ready-again : {t f : Fit} {a b : List Float} {ws : List ℕ} {limit room : ℕ} → Reached t a ws limit room f b
-    → (s : P.Setup) → Accepted s → setupHeld t a ≡ s → machineOf t a ≡ D.begin s → isReady f (length b) ≡ true
-ready-again {t} {f} {a} {b} h s c o e =
-    let k = h .is s c o e in
-    run-ready f (length b) b s (k .replies) c (k .due) (k .is) (setup-held h ∙ o) (h .sound) (omega (arith, h .area, h .size, area-held t a s e)) (k .entries) (k .words)
 
 pub reached-done : {t f : Fit} {a b : List Float} {ws : List ℕ} {limit room : ℕ} → Reached t a ws limit room f b → (f .words ≡ length ws) ⊎ (f .entries ≡ limit)
     → Replays t a ws limit room (Done f) b
@@ -292,9 +282,9 @@ reached-refused {t} {f} {a} {b} {d} {ws} {limit} {room} r q h l size next =
     (record {
       size = size ∙ h .size;
       kept = k .code;
-      is = λ s c o e. let g = h .is s c o e in record {
+      is = λ s c e. let g = h .is s c e in record {
         number = suc (f .entries);
         most = l;
-        is = ap (oneMore room) (g .after) ∙ k .next (ready-again h s c o e) (g .replies) (g .words);
+        is = ap (oneMore room) (g .after) ∙ k .next (g .ready) (g .replies) (g .words);
       };
     })

@@ -12,12 +12,11 @@ use Rattle.definition.specs.Driver as D
 use Rattle.definition.specs.Log.{Entries, logWords}
 use Rattle.definition.specs.Record.{wordsOf}
 use Rattle.definition.specs.Replies.{Accepted, Due}
-use Rattle.area.specs.Area.{view, X0, Lower, Upper}
-use Rattle.problem.specs.Setups.{setupIn}
+use Rattle.area.specs.Area.{view, X0}
 use Rattle.search.specs.State.{Settled}
 use Rattle.fit.specs.State.{machineOf}
 use Rattle.fit.specs.declared.Fit.{Fit}
-use Rattle.driver.specs.Replies.{shapeHeld}
+use Rattle.driver.specs.Replies.{shapeHeld, mostWords, isReady}
 use Rattle.replay.specs.declared.Source.{Source}
 use Rattle.replay.specs.declared.Replayed.{Replayed}
 use Rattle.replay.specs.declared.Replayed.the-variants.{Done, Refused}
@@ -55,11 +54,11 @@ withLog entries words t = record {
 
 -- ---- a replay
 
--- the setup that a fit and its area hold
-abbrev pub setupHeld : Fit → List Float → P.Setup
-setupHeld t a = let v = view a (t .shape .n) in setupIn (t .options) (v X0) (v Lower) (v Upper)
+-- every fit on the way passes the held test: the setup is accepted, or the words are few
+abbrev pub Replayable : P.Setup → List ℕ → Type 0
+Replayable s ws = Accepted s ⊎ (length ws < mostWords)
 
--- f with the area b is the setup's machine after as many entries as f says
+-- f with the area b is the setup's machine after as many entries as f says, and can be advanced
 pub record ReplayedTo (s : P.Setup) (ws : List ℕ) (room : ℕ) (f : Fit) (b : List Float) : Type 0 where
   pub replies : List M.Reply
   pub after : afterEntries (f .entries) room (firstEntries s ws) ≡ Entries.going (drop (f .words) ws) replies (machineOf f b)
@@ -68,6 +67,7 @@ pub record ReplayedTo (s : P.Setup) (ws : List ℕ) (room : ℕ) (f : Fit) (b : 
   pub spelled : logWords replies ++ drop (f .words) ws ≡ ws
   pub entries : f .entries ≡ length replies
   pub words : f .words ≡ length (logWords replies)
+  pub ready : isReady f (length b) ≡ true
 
 -- the definition refuses an entry, no later than the number asked for
 pub record RefusedAt (s : P.Setup) (ws : List ℕ) (limit room c : ℕ) : Type 0 where
@@ -101,5 +101,5 @@ Kept t a ws limit room (Refused c) b = (c ≡ 17) ⊎ ((c ≡ 12) × (room < len
 pub record Replays (t : Fit) (a : List Float) (ws : List ℕ) (limit room : ℕ) (r : Replayed) (b : List Float) : Type 0 where
   pub size : length b ≡ length a
   pub kept : Kept t a ws limit room r b
-  -- of an accepted setup, the definition's reading, entry by entry
-  pub is : (s : P.Setup) → Accepted s → setupHeld t a ≡ s → machineOf t a ≡ D.begin s → Ends s ws limit room r b
+  -- the definition's reading, entry by entry
+  pub is : (s : P.Setup) → Replayable s ws → machineOf t a ≡ D.begin s → Ends s ws limit room r b

@@ -20,8 +20,10 @@ use Rattle.definition.specs.History.{Call, History, restoredAnswer, historyStep
 use Rattle.problem.specs.Setups.{refusalOf}
 use Rattle.fit.specs.declared.Fit.{Fit}
 use Rattle.driver.specs.declared.Reply.{Reply}
-use Rattle.lbfgsb.specs.Words.{Words, words, lengths, Holds, replied, next, kept, asked, told, entered, saved}
-use Rattle.lbfgsb.specs.Did.{Did, Opening, Stepped, Read, Counted, refusedBy}
+use Rattle.lbfgsb.specs.Words.{Words, words, lengths, Holds}
+use Rattle.lbfgsb.specs.Bridge.{replied, next, kept, asked, told, entered, saved}
+use Rattle.lbfgsb.specs.Did.{Did, Opening, Stepped, Read, Counted}
+use Rattle.lbfgsb.specs.Table.{refusedBy}
 use Rattle.lbfgsb.specs.Chain.{Chain, Opens, Allowed}
 use Rattle.lbfgsb.proofs.Lists.{stepped, sized, from, after, every, zeros-blank}
 use Rattle.lbfgsb.specs.declared.Answer.{Answer}
@@ -90,9 +92,9 @@ kept-shows c c' f w a' l' z r p fo b q e d =
 
 -- a call that leaves them
 pub read-shows :
-    {X : Type 0} (c c' : Call) (w : Words) (o : Option H.Answer) (o' any : H.Answer) (out out' : List X) → c ≡ c' → o ≡ some o'
-    → ((h : History) → historyStep (lengths w) h c' ≡ h) → Opening c' w w o' → Read c' w o' any out out' → Shows c w w o
-read-shows c c' w o o' any out out' q e stays p r =
+    {X : Type 0} (c c' : Call) (w : Words) (o : Option H.Answer) (o' : H.Answer) (out out' : List X) → c ≡ c' → o ≡ some o'
+    → ((h : History) → historyStep (lengths w) h c' ≡ h) → Opening c' w w o' → Read c' w o' out out' → Shows c w w o
+read-shows c c' w o o' out out' q e stays p r =
     let d : Did c' w w o' = record { sized = refl; holds = λ h x. subst (λ (y : History). Holds w y) (sym (stays h)) x; said = r .said } in
     record { answer = o'; is = e; step = step-as c c' w w o' q (record { did = d; opening = p }) }
 

@@ -15,7 +15,8 @@ use Rattle.fit.specs.declared.Fit.{Fit}
 use Rattle.question.specs.Reports.{reportOf}
 use Rattle.driver.specs.declared.Reply.{Reply}
 use Rattle.driver.specs.declared.Reply.the-variants as R
-use Rattle.lbfgsb.specs.Words.{Words, lengths, Holds, replied, firstOf}
+use Rattle.lbfgsb.specs.Words.{Words, lengths, Holds}
+use Rattle.lbfgsb.specs.Bridge.{replied, firstOf}
 use Rattle.lbfgsb.specs.Did.{Stepped}
 use Rattle.lbfgsb.specs.Chain.{Chain, Allowed, After, Demand}
 use Rattle.lbfgsb.specs.declared.Answer.{Answer}

@@ -19,8 +19,10 @@ use Rattle.definition.specs.Programs.{Printed, printedFit, printedOf, printed, 
 use Rattle.problem.specs.declared.Refusal.{Refusal}
 use Rattle.fit.specs.declared.Fit.{Fit}
 use Rattle.driver.proofs.Laws.{ready-facts, held-ready}
-use Rattle.lbfgsb.specs.Words.{Words, words, machineIn, Held, told}
-use Rattle.lbfgsb.specs.Did.{Read, refusedBy, reportAnswer}
+use Rattle.lbfgsb.specs.Words.{Words, words, machineIn, Held}
+use Rattle.lbfgsb.specs.Bridge.{told}
+use Rattle.lbfgsb.specs.Did.{Read}
+use Rattle.lbfgsb.specs.Table.{refusedBy, reportAnswer}
 use Rattle.lbfgsb.specs.declared.Answer.{Answer}
 use Rattle.lbfgsb.specs.declared.Answer.the-variants as A
 use Rattle.lbfgsb.specs.declared.Told.{Told}
@@ -42,7 +44,7 @@ refused-printed bs r c a l h e = sym (refused-go (readInput bs) c a l (subst (λ
 -- ---- a fit
 
 held-n : {w : Words} {s : P.Setup} {rs : List M.Reply} → Held w s rs → w .state .shape .n ≤ 64
-held-n {w} h = omega (arith, ready-facts (w .state) (length (w .area)) (held-ready (w .state) (w .area) (h .test)) .ready)
+held-n {w} h = omega (arith, ready-facts (w .state) (length (w .area)) (held-ready (w .state) (w .area) (h .stands .test)) .ready)
 
 -- an answer to the report's call
 abbrev answered : H.Answer → Printed
@@ -64,7 +66,7 @@ reported false r = refl
 
 held-answered : (w : Words) (s : P.Setup) (rs : List M.Reply) → Held w s rs → answered (reportAnswer w 64) ≡ printedFit (run s rs)
 held-answered w s rs h =
-    rw (h .test, le-ltb 64 (w .state .shape .n) (held-n h)) (reported (M.unreported (machineIn w .phase)) (M.report (machineIn w)) ∙ ap printedFit (h .is))
+    rw (h .stands .test, le-ltb 64 (w .state .shape .n) (held-n h)) (reported (M.unreported (machineIn w .phase)) (M.report (machineIn w)) ∙ ap printedFit (h .stands .is))
 
 fit-go : (z : Reading) (f : Fit) (a : List Float) (l : List ℕ) (t : Told) (x : List Float) → Taken z (A.Kept f) a l
     → told t (f .shape .n) x ≡ reportAnswer (words f a l) 64 → (f .shape .n ≤ 64) × (printedAs t (f .shape .n) x ≡ printedOf z)
@@ -73,7 +75,7 @@ fit-go (Reading.refused k) f a l t x h e = absurd h
 fit-go (Reading.refusedAtEntry k) f a l t x h e = absurd h
 
 pub fit-printed : (bs : List ℕ) (r : Answer) (f : Fit) (a : List Float) (l : List ℕ) (t : Told) (x x' : List Float) → Taken (readInput bs) r a l → r ≡ A.Kept f → length x ≡ 64
-    → ((m : List ℕ) → Read (Call.report (length x)) (words f a m) (told t (f .shape .n) x') (reportAnswer (words f a m) (length x)) x x')
+    → ((m : List ℕ) → Read (Call.report (length x)) (words f a m) (told t (f .shape .n) x') x x')
     → (f .shape .n ≤ 64) × (printedAs t (f .shape .n) x' ≡ printed bs)
 fit-printed bs r f a l t x x' h e k d =
     fit-go (readInput bs) f a l t x' (subst (λ (y : Answer). Taken (readInput bs) y a l) e h) (d l .always ∙ ap (reportAnswer (words f a l)) k)

@@ -2,7 +2,7 @@
 use mathlib.Core.Path.{sym, ap, _∙_}
 use borrow.Author.Needs.{needs}
 use Rattle.definition.specs.History as H
-use Rattle.lbfgsb.specs.Words.{nextBy, keptBy}
+use Rattle.lbfgsb.specs.Bridge.{nextBy, keptBy}
 use Rattle.lbfgsb.proofs.answered.Statement.{statement}
 use Rattle.lbfgsb.proofs.answered.Tie as tie
 

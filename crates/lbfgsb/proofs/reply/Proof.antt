@@ -4,7 +4,8 @@ use borrow.Author.Needs.{needs}
 use borrow.Author.Tests.{not-true, not-false}
 use lib.ListN.{length}
 use Rattle.driver.proofs.Laws.{ready-facts, held-ready}
-use Rattle.lbfgsb.specs.Words.{words, replied}
+use Rattle.lbfgsb.specs.Words.{words}
+use Rattle.lbfgsb.specs.Bridge.{replied}
 use Rattle.accept.proofs.Checks.{passed, refused}
 use Rattle.lbfgsb.proofs.Answers.{reply-unheld, reply-refused, reply-advanced}
 use Rattle.lbfgsb.proofs.reply.Statement.{statement}

@@ -2,13 +2,14 @@
 use mathlib.Core.Path.{_≡_, refl, sym, subst}
 use mathlib.Core.Bool.{true, false≢true}
 use borrow.Author.Needs.{needs}
-use Prim.Native.Nat.{ℕ, _≤_}
+use Prim.Native.Nat.{ℕ, _≤_, _<_}
 use native.Mathlib.Omega.{arith}
 use lib.ListN.{length, take}
 use lib.Seq.{length-take-le}
 use Rattle.area.specs.Area.{view}
 use Rattle.opening.specs.Opened.{setupAt}
-use Rattle.driver.specs.Replies.{isReady}
+use Rattle.driver.specs.Replies.{mostWords, isReady}
+use Rattle.driver.proofs.Laws.{ready-facts}
 use Rattle.replay.specs.declared.Replayed.{Replayed}
 use Rattle.rebuild.specs.Built.{Markable, Stays}
 use Rattle.rebuild.proofs.Built.{ready-room, opened-ready, opened-here, markable-all, stays-by}
@@ -46,10 +47,12 @@ returns c =
     let q = c .before .before .settle in
     let long : length (r .last .1 .0) ≡ length (a .area .now) = search needs in
     let ws = take (a .fit .words) (a .log .now) in
-    let fits : length ws ≤ length (a .log .now) = omega (arith, length-take-le (a .fit .words) (a .log .now) (s .pre .1)) in
+    let all-words = length-take-le (a .fit .words) (a .log .now) (s .pre .1) in
+    let fits : length ws ≤ length (a .log .now) = omega (arith, all-words) in
+    let few : length ws < mostWords = omega (arith, all-words, ready-facts (a .fit) (length (a .area .now)) (s .pre .0) .words) in
     subst
     (λ (i : ℕ). Stays (setupAt (a .fit .options) (view (a .area .now) (a .fit .shape .n))) ws (a .count) (length (a .log .now)) i (all .result) (q .last .0)) long
-    (stays-by (opened-here long (r .ensures)) {ws = ws} fits (p .result) (p .last .1 .0) (q .last .0) (p .ensures) (all .result) (all .ensures) (q .ensures))
+    (stays-by (opened-here long (r .ensures)) {ws = ws} few fits (p .result) (p .last .1 .0) (q .last .0) (p .ensures) (all .result) (all .ensures) (q .ensures))
 
 pub replay-log-spec : {M : Type 1} → statement M
 replay-log-spec = tie.close (tie.spec reset-requires (λ c. refl) replay-requires (λ c κs. search needs) settle-requires (λ c. search needs) returns)

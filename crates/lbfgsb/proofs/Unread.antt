@@ -1,0 +1,76 @@
+-- No later call rests on scratch: words that agree with words that hold a fit hold it too, whatever their scratch is. Assumes nothing.
+use Prim.Native.Nat.{ℕ, _≤_, _<_}
+use mathlib.Core.Path.{_≡_, refl, sym, ap, _∙_, subst}
+use mathlib.Core.Bool.{true}
+use mathlib.Core.List.{List}
+use native.Mathlib.Omega.{arith}
+use lib.ListN.{length, take}
+use lib.Ieee.{Float}
+use Rattle.definition.specs.Problem.{Setup}
+use Rattle.definition.specs.Machine.{Reply}
+use Rattle.definition.specs.Record.{Lengths}
+use Rattle.definition.specs.History.{History}
+use Rattle.area.specs.Area.{Vecs, view, X0, Lower, Upper}
+use Rattle.compact.proofs.Laws.{tab-same}
+use Rattle.compact.specs.State.{pairAt, pairsOf}
+use Rattle.compact.specs.declared.Shape.{Shape}
+use Rattle.fit.specs.declared.Fit.{Fit}
+use Rattle.fit.proofs.Laws.{same}
+use Rattle.driver.specs.Replies.{isReady, marked}
+use Rattle.driver.proofs.Laws.{ready-facts, held-ready, is-held}
+use Rattle.held.proofs.Laws.{setup-same}
+use Rattle.lbfgsb.specs.Words.{Words, words, lengths, Stands, Held}
+use Rattle.lbfgsb.specs.Chain.{Agree, Alike}
+use Rattle.lbfgsb.proofs.Areas.{InUse, Same, in-use}
+use Rattle.lbfgsb.proofs.Alike.{alike}
+use Rattle.lbfgsb.proofs.Trace.{Called}
+
+pairs-in-use : (h : Shape) (v w : Vecs) → ((k : ℕ) → k < h .pairs → pairAt h v k ≡ pairAt h w k) → pairsOf h w ≡ pairsOf h v
+unfolding pairsOf
+pairs-in-use h v w k = tab-same (h .pairs) (pairAt h w) (pairAt h v) (λ j l. sym (k j l))
+
+-- one state t with two areas and two logs
+module _ (t : Fit) (a b : List Float) (l m : List ℕ) {s : Setup} {rs : List Reply} (h : Stands (words t a l) s rs)
+    (area : Same (t .shape) a b) (mark : marked (t .shape) b ≡ true) (long : length a ≡ length b) (logged : length l ≡ length m)
+    (log : take (t .words) l ≡ take (t .words) m) where
+  stands-again : Stands (words t b m) s rs
+  stands-again =
+      let va = view a (t .shape .n) in
+      let vb = view b (t .shape .n) in
+      let facts = ready-facts t (length a) (held-ready t a (h .test)) in
+      let used = in-use (t .shape) a b (facts .positive) (facts .ready .sound) area long in
+      record {
+        due = h .due;
+        test = is-held t b (subst (λ (k : ℕ). isReady t k ≡ true) long (held-ready t a (h .test))) mark;
+        setup = setup-same (t .options) va vb (sym (used .low X0 (omega arith))) (sym (used .low Lower (omega arith))) (sym (used .low Upper (omega arith))) ∙ h .setup;
+        is = same t va vb (pairs-in-use (t .shape) va vb (used .pairs)) (λ q k. sym (used .low q k)) ∙ h .is;
+        settled = h .settled;
+        entries = h .entries;
+        words = h .words;
+        room = subst (λ (k : ℕ). t .words ≤ k) logged (h .room);
+        log = sym log ∙ h .log;
+      }
+
+-- the state of two words that agree is one
+agree-at : {w v : Words} (t : Fit) → w .state ≡ t → v .state ≡ t → Agree w v → Agree (words t (w .area) (w .log)) (words t (v .area) (v .log))
+agree-at {w} {v} t e f a =
+    subst (λ (x : Fit). Agree (words x (w .area) (w .log)) (words t (v .area) (v .log))) e
+    (subst (λ (x : Fit). Agree w (words x (v .area) (v .log))) f a)
+
+pub scratch-unread : {w v : Words} {s : Setup} {rs : List Reply} → Held w s rs → Agree w v → Held v s rs
+scratch-unread {w} {v} {s} {rs} h a =
+    let t = w .state in
+    let k = agree-at {w = w} {v = v} t refl (sym (a .state)) a in
+    let z = a .sized in
+    let area = ap (λ (x : Lengths). x .area) z in
+    let log = ap (λ (x : Lengths). x .log) z in
+    record {
+      accepted = h .accepted;
+      stands =
+          subst (λ (x : Fit). Stands (words x (v .area) (v .log)) s rs) (a .state)
+          (stands-again t (w .area) (v .area) (w .log) (v .log) (h .stands) (k .area) (k .mark .1) area log (k .log));
+    }
+
+-- so they are answered alike for ever
+pub scratch-alike : {w v : Words} {s : Setup} {rs : List Reply} → Held w s rs → Agree w v → Alike Called w v
+scratch-alike {w} {v} {s} {rs} h a = alike w v (History.fit s rs) h (scratch-unread h a) tt (a .sized)
