@@ -17,8 +17,8 @@ use Rattle.definition.specs.History.{Call, History, historyStep, historyAnswer,
 use Rattle.fit.specs.declared.Fit.{Fit}
 use Rattle.driver.specs.Replies.{isHeld}
 use Rattle.lbfgsb.specs.Words.{Words, words, lengths, Held, Holds}
-use Rattle.lbfgsb.specs.Did.{Started, Moved, Replied}
-use Rattle.lbfgsb.specs.Table.{checkAt}
+use Rattle.lbfgsb.specs.Did.{Did, Refuses, Started, Moved, Replied}
+use Rattle.lbfgsb.specs.Table.{checkAt, replyAnswer}
 use Rattle.accept.specs.Moves.{written, checkSaid, Advances}
 use Rattle.accept.proofs.Replying.{said-passed}
 use Rattle.accept.proofs.Laws.{held-advanced, written-length}
@@ -65,13 +65,13 @@ unheld-said : (w : Words) (r : M.Reply) → isHeld (w .state) (w .area) ≡ fals
 unheld-said w r e History.empty k = refl
 unheld-said w r e (History.fit s rs) k = absurd (false≢true (sym e ∙ k .stands .test))
 
+replied-by : {r : M.Reply} {w w' : Words} {o : H.Answer} → Did (Call.reply r) w w' o → o ≡ replyAnswer w r → Refuses o w w' → (o ≡ H.Answer.done → Moved r w w')
+    → Replied r w w' o
+replied-by d e k m = record { did = d; always = e; refuses = k; moved = m }
+
 pub reply-unheld : (r : M.Reply) (w : Words) → isHeld (w .state) (w .area) ≡ false → Replied r w w (H.Answer.refused (plainRefusal 13))
-reply-unheld r w e = record {
-  did = record { sized = refl; holds = unheld-holds w r e; said = unheld-said w r e };
-  always = rw e refl;
-  refuses = λ q p. refl;
-  moved = λ p. absurd (unlike (plainRefusal 13) p);
-}
+reply-unheld r w e =
+    replied-by (record { sized = refl; holds = unheld-holds w r e; said = unheld-said w r e }) (rw e refl) (λ q p. refl) (λ p. absurd (unlike (plainRefusal 13) p))
 
 refused-holds : (w : Words) (r : M.Reply) (c : Refusal) → isHeld (w .state) (w .area) ≡ true → checkAt w r ≡ some c
     → (h : History) → Holds w h → Holds w (historyStep (lengths w) h (Call.reply r))
@@ -84,12 +84,8 @@ refused-said w r c t e History.empty k = absurd (true≢false (sym t ∙ k))
 refused-said w r c t e (History.fit s rs) k = rw (check-held w s rs r k ∙ e) refl
 
 pub reply-refused : (r : M.Reply) (w : Words) (c : Refusal) → isHeld (w .state) (w .area) ≡ true → checkAt w r ≡ some c → Replied r w w (H.Answer.refused c)
-reply-refused r w c t e = record {
-  did = record { sized = refl; holds = refused-holds w r c t e; said = refused-said w r c t e };
-  always = rw (t, e) refl;
-  refuses = λ q p. refl;
-  moved = λ p. absurd (unlike c p);
-}
+reply-refused r w c t e =
+    replied-by (record { sized = refl; holds = refused-holds w r c t e; said = refused-said w r c t e }) (rw (t, e) refl) (λ q p. refl) (λ p. absurd (unlike c p))
 
 -- the words hold the fit with one more reply, whatever they held
 abbrev pub OneMore : M.Reply → Words → Words → Type 0
@@ -107,17 +103,13 @@ done-said r w t e (History.fit s rs) k = rw (check-held w s rs r k ∙ e) refl
 
 pub reply-done : (r : M.Reply) (w w' : Words) → isHeld (w .state) (w .area) ≡ true → checkAt w r ≡ none → lengths w' ≡ lengths w → Moved r w w' → OneMore r w w'
     → Replied r w w' H.Answer.done
-reply-done r w w' t e z v m = record {
-  did = record { sized = z; holds = done-holds r w w' t e m; said = done-said r w t e };
-  always = rw (t, e) refl;
-  refuses = λ q p. absurd (other q p);
-  moved = λ p. v;
-}
+reply-done r w w' t e z v m =
+    replied-by (record { sized = z; holds = done-holds r w w' t e m; said = done-said r w t e }) (rw (t, e) refl) (λ q p. absurd (other q p)) (λ p. v)
 
 -- ---- the fit advanced
 
 moved : {r : M.Reply} {t f : Fit} {a b : List Float} (l : List ℕ) → Advances r t a f b → Moved r (words t a l) (words f b (written (t .words) (entryWords r) l))
-moved {r} {t} l h = record {
+moved {r} {t} {f} l h = record {
   is = h .is;
   setup = h .setup;
   entries = h .entries;

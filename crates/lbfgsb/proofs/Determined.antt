@@ -36,7 +36,7 @@ use Rattle.fit.specs.declared.Side.the-variants.{Right, Left}
 use Rattle.fit.specs.declared.Phase.{Phase}
 use Rattle.fit.specs.declared.Phase.the-variants.{Value, Gradient, Probe, Notice, Ended}
 use Rattle.driver.proofs.Laws.{held-ready, held-marked, ready-facts}
-use Rattle.lbfgsb.specs.Words.{Words, lengths, setupOf, machineIn, Held}
+use Rattle.lbfgsb.specs.Words.{Words, lengths, setupOf, machineIn, Stands}
 use Rattle.lbfgsb.specs.Chain.{Agree}
 use Rattle.lbfgsb.proofs.Areas.{InUse, each-word}
 
@@ -230,18 +230,18 @@ module _ (w v : Words) (d : setupOf w ≡ setupOf v) where
 
 -- ---- the words
 
-module _ {w v : Words} {s : P.Setup} {rs : List M.Reply} (h : Held w s rs) (k : Held v s rs) where
+module _ {w v : Words} {s : P.Setup} {rs : List M.Reply} (h : Stands w s rs) (k : Stands v s rs) where
   same-machine : machineIn w ≡ machineIn v
-  same-machine = h .stands .is ∙ sym (k .stands .is)
+  same-machine = h .is ∙ sym (k .is)
 
   same-setup : setupOf w ≡ setupOf v
-  same-setup = h .stands .setup ∙ sym (k .stands .setup)
+  same-setup = h .setup ∙ sym (k .setup)
 
   same-entries : w .state .entries ≡ v .state .entries
-  same-entries = h .stands .entries ∙ sym (k .stands .entries)
+  same-entries = h .entries ∙ sym (k .entries)
 
   same-words : w .state .words ≡ v .state .words
-  same-words = h .stands .words ∙ sym (k .stands .words)
+  same-words = h .words ∙ sym (k .words)
 
   pub determined : w .state ≡ v .state
   determined =
@@ -251,7 +251,7 @@ module _ {w v : Words} {s : P.Setup} {rs : List M.Reply} (h : Held w s rs) (k : 
       let limits = same-limits w v e in
       let counters = same-counters w v e in
       let phase = same-phase w v e in
-      let search = same-search w v e (h .stands .settled) (k .stands .settled) in
+      let search = same-search w v e (h .settled) (k .settled) in
       let trials = same-trials w v e in
       let entries = same-entries in
       let words = same-words in
@@ -293,11 +293,11 @@ module _ {w v : Words} {s : P.Setup} {rs : List M.Reply} (h : Held w s rs) (k : 
 
   pub agree : lengths w ≡ lengths v → Agree w v
   agree l =
-      let facts = ready-facts (w .state) (length (w .area)) (held-ready (w .state) (w .area) (h .stands .test)) in
+      let facts = ready-facts (w .state) (length (w .area)) (held-ready (w .state) (w .area) (h .test)) in
       record {
         state = determined;
         area = each-word (w .state .shape) (w .area) (v .area) (facts .positive) (facts .ready .sound) in-use;
-        mark = (held-marked (w .state) (w .area) (h .stands .test), held-marked (v .state) (v .area) (k .stands .test));
-        log = h .stands .log ∙ sym (k .stands .log);
+        mark = (held-marked (w .state) (w .area) (h .test), held-marked (v .state) (v .area) (k .test));
+        log = h .log ∙ sym (k .log);
         sized = l;
       }

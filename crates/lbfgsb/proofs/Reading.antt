@@ -25,10 +25,10 @@ use Rattle.question.specs.Reports.{pointAsked, written, reportOf}
 use Rattle.question.specs.declared.Outcome.{Outcome}
 use Rattle.record.specs.Records.{setupSize}
 use Rattle.driver.specs.Replies.{isHeld}
-use Rattle.lbfgsb.specs.Words.{words}
+use Rattle.lbfgsb.specs.Words.{Words, words}
 use Rattle.lbfgsb.specs.Bridge.{firstOf}
 use Rattle.lbfgsb.specs.Did.{Written, taken, Read, Counted}
-use Rattle.lbfgsb.specs.Table.{refusedBy, questionOf, questionAnswer, reportAnswer, frontEntry, entryIn, entryKept, shortLog, entryAnswer, recordIn, saveAnswer}
+use Rattle.lbfgsb.specs.Table.{refusedBy, questionOf, questionAnswer, reportAnswer, repliesAnswer, frontEntry, entryIn, entryKept, shortLog, entryAnswer, recordIn, saveAnswer}
 use Rattle.lookup.specs.Reading.{Begins}
 use Rattle.lookup.proofs.Entries.{entry-words, entry-room}
 use Rattle.lbfgsb.proofs.Firsts.{first-taken}
@@ -190,15 +190,14 @@ module _ (t : Fit) (a : List Float) (l : List ℕ) (out : List Float) where
 
 -- ---- how many replies
 
+counted-by : (k : ℕ) (w : Words) → H.Answer.counted k ≡ repliesAnswer w → Counted k w
+counted-by k w e = record { said = λ h g. e ∙ replies-said w h g; always = e }
+
 pub counted-held : (t : Fit) (a : List Float) (l : List ℕ) → isHeld t a ≡ true → Counted (t .entries) (words t a l)
-counted-held t a l h =
-    let e = sym (on (isHeld t a) (H.Answer.counted (t .entries)) (H.Answer.counted 0) h) in
-    record { said = λ g k. e ∙ replies-said (words t a l) g k; always = e }
+counted-held t a l h = counted-by (t .entries) (words t a l) (sym (on (isHeld t a) (H.Answer.counted (t .entries)) (H.Answer.counted 0) h))
 
 pub counted-unheld : (t : Fit) (a : List Float) (l : List ℕ) → isHeld t a ≡ false → Counted 0 (words t a l)
-counted-unheld t a l h =
-    let e = sym (off (isHeld t a) (H.Answer.counted (t .entries)) (H.Answer.counted 0) h) in
-    record { said = λ g k. e ∙ replies-said (words t a l) g k; always = e }
+counted-unheld t a l h = counted-by 0 (words t a l) (sym (off (isHeld t a) (H.Answer.counted (t .entries)) (H.Answer.counted 0) h))
 
 -- ---- an entry
 

@@ -57,19 +57,17 @@ agree-at {w} {v} t e f a =
     subst (λ (x : Fit). Agree (words x (w .area) (w .log)) (words t (v .area) (v .log))) e
     (subst (λ (x : Fit). Agree w (words x (v .area) (v .log))) f a)
 
-pub scratch-unread : {w v : Words} {s : Setup} {rs : List Reply} → Held w s rs → Agree w v → Held v s rs
-scratch-unread {w} {v} {s} {rs} h a =
+scratch-stands : {w v : Words} {s : Setup} {rs : List Reply} → Stands w s rs → Agree w v → Stands v s rs
+scratch-stands {w} {v} {s} {rs} h a =
     let t = w .state in
     let k = agree-at {w = w} {v = v} t refl (sym (a .state)) a in
-    let z = a .sized in
-    let area = ap (λ (x : Lengths). x .area) z in
-    let log = ap (λ (x : Lengths). x .log) z in
-    record {
-      accepted = h .accepted;
-      stands =
-          subst (λ (x : Fit). Stands (words x (v .area) (v .log)) s rs) (a .state)
-          (stands-again t (w .area) (v .area) (w .log) (v .log) (h .stands) (k .area) (k .mark .1) area log (k .log));
-    }
+    let area = ap (λ (x : Lengths). x .area) (a .sized) in
+    let log = ap (λ (x : Lengths). x .log) (a .sized) in
+    subst (λ (x : Fit). Stands (words x (v .area) (v .log)) s rs) (a .state)
+    (stands-again t (w .area) (v .area) (w .log) (v .log) h (k .area) (k .mark .1) area log (k .log))
+
+pub scratch-unread : {w v : Words} {s : Setup} {rs : List Reply} → Held w s rs → Agree w v → Held v s rs
+scratch-unread h a = record { accepted = h .accepted; stands = scratch-stands (h .stands) a }
 
 -- so they are answered alike for ever
 pub scratch-alike : {w v : Words} {s : Setup} {rs : List Reply} → Held w s rs → Agree w v → Alike Called w v

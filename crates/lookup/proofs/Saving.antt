@@ -23,7 +23,7 @@ use Rattle.record.proofs.Saving.{saved-size}
 use Rattle.driver.specs.Replies.{isHeld}
 use Rattle.driver.proofs.Laws.{ReadyFacts, ready-facts, held-ready}
 use Rattle.held.specs.Words.{words}
-use Rattle.lookup.specs.Reading.{recordIn, Stands}
+use Rattle.lookup.specs.Reading.{recordIn, Placed}
 
 -- what the test gives
 pub facts : (t : Fit) (a : List Float) → isHeld t a ≡ true → ReadyFacts t (length a)
@@ -38,8 +38,8 @@ places-few : (k : MaybeCount) (m : ℕ) → P.orElse (countOf k) 10 ≡ m → m 
 places-few K.Absent m e h = omega arith
 places-few (K.Given j) m e h = omega arith
 
-pub held-stands : (t : Fit) (a : List Float) → isHeld t a ≡ true → Stands t a
-held-stands t a h =
+pub held-placed : (t : Fit) (a : List Float) → isHeld t a ≡ true → Placed t a
+held-placed t a h =
     let f = facts t a h in
     let sound = f .ready .sound in
     record {
@@ -68,7 +68,7 @@ record-long t a l h r =
     let log = take (t .words) l in
     let ws = savedWords (t .options) (view a n X0) (view a n Lower) (view a n Upper) log in
     let size : length ws ≡ setupSize (t .options .bounded) (length (view a n X0)) + length log
-    = saved-size (t .options) (view a n X0) (view a n Lower) (view a n Upper) (held-stands t a h .savable) log in
+    = saved-size (t .options) (view a n X0) (view a n Lower) (view a n Upper) (held-placed t a h .savable) log in
     let start : setupSize (t .options .bounded) (length (view a n X0)) ≡ setupSize (t .options .bounded) n
     = ap (setupSize (t .options .bounded)) (vector-long t a X0 (omega arith) h) in
     bytes-length (ws ++ trailer ws)
@@ -81,7 +81,7 @@ abbrev lent : ℕ → List Float → ℕ → List Float
 lent n a q = take (q * n + n - q * n) (drop (q * n) a)
 
 module _ (t : Fit) (a : List Float) (l : List ℕ) where
-  pub record-lent : {size : ℕ} → Stands t a → t .words ≤ length l → 8 * (setupSize (t .options .bounded) (t .shape .n) + t .words + 4) ≤ size
+  pub record-lent : {size : ℕ} → Placed t a → t .words ≤ length l → 8 * (setupSize (t .options .bounded) (t .shape .n) + t .words + 4) ≤ size
       → Savable (t .options) (lent (t .shape .n) a X0) (lent (t .shape .n) a Lower) (lent (t .shape .n) a Upper)
       × (8 * (setupSize (t .options .bounded) (length (lent (t .shape .n) a X0)) + length (take (t .words - 0) l) + 4) ≤ size)
   record-lent h r f =

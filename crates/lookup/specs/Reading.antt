@@ -35,7 +35,7 @@ pub record Begins (n k : ℕ) (ws : List ℕ) (at : ℕ) : Type 0 where
   pub is : frontEntry n (drop at ws) ≡ entryIn n k ws
 
 -- the start and the bounds stand in the area, and can be saved
-pub record Stands (t : Fit) (a : List Float) : Type 0 where
+pub record Placed (t : Fit) (a : List Float) : Type 0 where
   pub room : 5 * t .shape .n ≤ length a
   pub savable : Savable (t .options) (view a (t .shape .n) X0) (view a (t .shape .n) Lower) (view a (t .shape .n) Upper)
 

@@ -4,7 +4,7 @@ ghost use Prim.Native.Nat.{_+_, _-_, _*_, _≤_};
 ghost use lib.ListN.{length, take, drop};
 ghost use Rattle.question.specs.Reports.{written as writtenFirst};
 ghost use Rattle.record.specs.Records.{setupSize};
-ghost use Rattle.lookup.specs.Reading.{Begins, Stands};
+ghost use Rattle.lookup.specs.Reading.{Begins, Placed};
 ghost use Rattle.held.specs.Words.{words};
 ghost use Rattle.lookup.specs.Reading.{frontEntry, recordIn};
 use fit::Fit;
@@ -62,7 +62,7 @@ pub fn copy_words(log: &[u64], from: usize, count: usize, out: &mut [u64])
 
 // The record of what state, area and log hold, into the front of an output slice.
 pub fn put_record(t: Fit, area: &[f64], log: &[u64], out: &mut [u8])
-    requires { ⌜ Stands t (now area) × (t .words ≤ length (now log)) × (8 * (setupSize (t .options .bounded) (t .shape .n) + t .words + 4) ≤ length (now out)) ⌝ }
+    requires { ⌜ Placed t (now area) × (t .words ≤ length (now log)) × (8 * (setupSize (t .options .bounded) (t .shape .n) + t .words + 4) ≤ length (now out)) ⌝ }
     ensures { λ _. ⌜ now (out .exit) ≡ writtenFirst (recordIn (words t (now (area .entry)) (now (log .entry)))) (now (out .entry)) ⌝ }
 {
     let n = t.shape.n;

@@ -5,5 +5,7 @@ use libc::STDOUT_FILENO;
 fn main() {
     let mut input = [0u8; 65537];
     let size = io::read_full(STDIN_FILENO, &mut input);
-    text::print_text(STDOUT_FILENO, &input[0..size]);
+    let mut out = [0u8; 2048];
+    let end = text::put_text(&input[0..size], &mut out);
+    io::write_all(STDOUT_FILENO, &out[0..end]);
 }

@@ -35,7 +35,9 @@ fn print(input: &[u8], end: usize) {
     if end > input.len() {
         return;
     }
-    text::print_text(STDOUT_FILENO, &input[0..end]);
+    let mut out = [0u8; 2048];
+    let size = text::put_text(&input[0..end], &mut out);
+    io::write_all(STDOUT_FILENO, &out[0..size]);
 }
 
 // Every input of the file. Nothing says that a file ends, so the turns are counted down.

@@ -1,6 +1,7 @@
 // Runs scripts of calls on document 01's first starred case, f = x²/2 in a box from -8 to 8 with the start 4, each from an area of zeros
 // that just holds the fit, a log that just holds its five replies, and a state of junk. Of each script the last answer is written, one line
 // each: its number (0 nothing, 1 done, 2 refused, 3 no question, 4 question, 5 report, 6 replies, 7 entry, 8 save) and what comes with it.
+// Of a refusal that is its number and both details, so that these stand in the expected output as document 01 has them: 14 and 3 (expected, found).
 use compact::Shape;
 use counters::Counters;
 use fit::Fit;
@@ -195,11 +196,9 @@ fn show(last: Shown, point: f64, first: u64, second: u64) {
 
 // ---- scripts
 
-// The last answer of a script.
-fn run(calls: &[u64], input: &[u8], bytes: &mut [u8]) {
+// The last answer of a script, with a box of these sides.
+fn run_within(calls: &[u64], lower: &[f64], upper: &[f64], input: &[u8], bytes: &mut [u8]) {
     let x0 = [4.0f64];
-    let lower = [-8.0f64];
-    let upper = [8.0f64];
     let gradients = [FOUR, 0u64];
     let mut area = [0.0f64; 496];
     let mut log = [0u64; 9];
@@ -209,8 +208,8 @@ fn run(calls: &[u64], input: &[u8], bytes: &mut [u8]) {
         calls,
         options(),
         &x0,
-        &lower,
-        &upper,
+        lower,
+        upper,
         &gradients,
         input,
         junk(),
@@ -223,6 +222,13 @@ fn run(calls: &[u64], input: &[u8], bytes: &mut [u8]) {
     let last = r.last;
     show(last, point[0], found[0], found[1]);
     io::write_all(STDOUT_FILENO, b"\n");
+}
+
+// The last answer of a script, with the case's box.
+fn run(calls: &[u64], input: &[u8], bytes: &mut [u8]) {
+    let lower = [-8.0f64];
+    let upper = [8.0f64];
+    run_within(calls, &lower, &upper, input, bytes);
 }
 
 // A script that neither saves nor restores.
@@ -329,6 +335,18 @@ fn refusals() {
     plain(&many);
 }
 
+// Sides of the box longer than the start: the lower one of three words before the upper one of two, then the upper one alone.
+fn long_sides() {
+    let none = [0u8; 1];
+    let mut bytes = [0u8; 1];
+    let calls = [START, 0, 0];
+    let one = [-8.0f64];
+    let two = [8.0f64; 2];
+    let three = [-8.0f64; 3];
+    run_within(&calls, &three, &two, &none, &mut bytes);
+    run_within(&calls, &one, &two, &none, &mut bytes);
+}
+
 // A refused reply keeps the fit: its entry and its replies are those of before.
 fn kept() {
     let counted = [START, 0, 0, VALUE, EIGHT, 0, GRADIENT, 0, 2, REPLIES, 0, 0];
@@ -414,6 +432,7 @@ fn main() {
     taken_back();
     asked_again();
     refusals();
+    long_sides();
     kept();
     garbage();
     there_and_back();

@@ -45,14 +45,10 @@ puts-as {a} {b} {p} {q} {at} {o} {o'} {r} e h x =
     rw (← e) (record { short = omega (arith, x .short); within = x .within; ends = x .ends; sized = x .sized; is = x .is })
 
 -- from the front of a slice
-pub puts-written : {a : List ℕ} {p : ℕ} {o o' : List ℕ} {r : ℕ} → Puts a p 0 o r o' → (r ≡ length a) × (o' ≡ written a o)
+pub puts-written : {a : List ℕ} {p : ℕ} {o o' : List ℕ} {r : ℕ} → Puts a p 0 o r o' → (r ≡ length a) × (o' ≡ written a o) × (r ≤ length o')
 puts-written {a} {p} {o} {o'} {r} x =
     let e : 0 + length a ≡ length a = omega arith in
-    (x .ends ∙ e, x .is ∙ ap (λ (k : ℕ). a ++ drop k o) e)
-
--- what is written lies within the slice
-pub written-within : (a o o' : List ℕ) (r : ℕ) → (r ≡ length a) × (o' ≡ written a o) → r ≤ length o'
-written-within a o o' r h = rw (h .1, length-append) (omega (arith, h .0))
+    (x .ends ∙ e, x .is ∙ ap (λ (k : ℕ). a ++ drop k o) e, omega (arith, x .ends, x .within, x .sized))
 
 -- a name, what is to its right, and the end of the line
 pub puts-line : {name value : List ℕ} {p q most at : ℕ} {o o' o'' z : List ℕ} {r s e : ℕ} → p + q + 1 ≤ most

@@ -133,17 +133,10 @@ fn put_read(
 // What the report program prints for an input; how many bytes it is.
 pub fn put_text(input: &[u8], out: &mut [u8]) -> usize
     requires { ⌜ 2048 ≤ length (now out) ⌝ }
-    ensures { λ r. ⌜ (let t = textOf (printed (now (input .entry))) in (r ≡ length t) × (now (out .exit) ≡ written t (now (out .entry)))) ⌝ }
+    ensures { λ r. ⌜ (let t = textOf (printed (now (input .entry))) in (r ≡ length t) × (now (out .exit) ≡ written t (now (out .entry))) × (r ≤ length (now (out .exit)))) ⌝ }
 {
     let mut area = [0.0f64; input::AREA];
     let mut log = [0u64; input::LOG];
     let mut point = [0.0f64; 64];
     put_read(input, &mut area, &mut log, &mut point, out)
-}
-
-// Writes that text to a descriptor.
-pub fn print_text(fd: i32, input: &[u8]) {
-    let mut out = [0u8; 2048];
-    let size = put_text(input, &mut out);
-    io::write_all(fd, &out[0..size]);
 }

@@ -3,7 +3,7 @@ use mathlib.Core.Path.{sym, _∙_}
 use native.Mathlib.Omega.{arith}
 use borrow.Author.Needs.{needs}
 use borrow.Author.Tests.{not-true, not-false}
-use Rattle.lookup.proofs.Saving.{facts, setup-few, held-stands}
+use Rattle.lookup.proofs.Saving.{facts, setup-few, held-placed}
 use Rattle.lbfgsb.proofs.Reading.{save-unheld, save-cut, save-short, save-put}
 use Rattle.lbfgsb.proofs.save.Statement.{statement}
 use Rattle.lbfgsb.proofs.save.Tie as tie
@@ -55,7 +55,7 @@ put-record-requires : tie.Need-put-record-requires
 put-record-requires c κs =
     let short = c .before .before .before .before in
     let held = short .before in
-    (held-stands _ _ (sym (held .before .is-held .ensures) ∙ not-false _ (held .if1 .left)), short .if2 .left, omega (arith, c .before .before .setup-words .ensures, c .before .if3 .left))
+    (held-placed _ _ (sym (held .before .is-held .ensures) ∙ not-false _ (held .if1 .left)), short .if2 .left, omega (arith, c .before .before .setup-words .ensures, c .before .if3 .left))
 
 returns-4 : tie.Need-returns-4
 returns-4 c =
