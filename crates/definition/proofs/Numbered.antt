@@ -147,7 +147,8 @@ setup-numbered s =
 
 pub opening : (z : Lengths) (s : Setup) → Numbered (refusalsOf (Call.start s)) (validate s then checkArea z s)
 opening z s =
-    both (validate s) (checkArea z s) (wider setupRow (refusalsOf (Call.start s)) (validate s) refl (setup-numbered s)) (tested (ltb (z .area) (areaNeeded s)) 11 (areaNeeded s) 0 refl)
+    both (validate s) (checkArea z s) (wider setupRow (refusalsOf (Call.start s)) (validate s) refl (setup-numbered s))
+    (tested (ltb (z .area) (areaNeeded s)) 11 (areaNeeded s) 0 refl)
 
 -- ---- a record
 

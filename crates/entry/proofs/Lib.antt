@@ -1,3 +1,3 @@
 pub mod Floats
 pub mod Laws
-pub mod NeverShort
+pub mod Returned

@@ -71,7 +71,8 @@ replied-by d e k m = record { did = d; always = e; refuses = k; moved = m }
 
 pub reply-unheld : (r : M.Reply) (w : Words) → isHeld (w .state) (w .area) ≡ false → Replied r w w (H.Answer.refused (plainRefusal 13))
 reply-unheld r w e =
-    replied-by (record { sized = refl; holds = unheld-holds w r e; said = unheld-said w r e }) (rw e refl) (λ q p. refl) (λ p. absurd (unlike (plainRefusal 13) p))
+    replied-by (record { sized = refl; holds = unheld-holds w r e; said = unheld-said w r e })
+    (rw e refl) (λ q p. refl) (λ p. absurd (unlike (plainRefusal 13) p))
 
 refused-holds : (w : Words) (r : M.Reply) (c : Refusal) → isHeld (w .state) (w .area) ≡ true → checkAt w r ≡ some c
     → (h : History) → Holds w h → Holds w (historyStep (lengths w) h (Call.reply r))
@@ -85,7 +86,8 @@ refused-said w r c t e (History.fit s rs) k = rw (check-held w s rs r k ∙ e) r
 
 pub reply-refused : (r : M.Reply) (w : Words) (c : Refusal) → isHeld (w .state) (w .area) ≡ true → checkAt w r ≡ some c → Replied r w w (H.Answer.refused c)
 reply-refused r w c t e =
-    replied-by (record { sized = refl; holds = refused-holds w r c t e; said = refused-said w r c t e }) (rw (t, e) refl) (λ q p. refl) (λ p. absurd (unlike c p))
+    replied-by (record { sized = refl; holds = refused-holds w r c t e; said = refused-said w r c t e })
+    (rw (t, e) refl) (λ q p. refl) (λ p. absurd (unlike c p))
 
 -- the words hold the fit with one more reply, whatever they held
 abbrev pub OneMore : M.Reply → Words → Words → Type 0
@@ -104,7 +106,8 @@ done-said r w t e (History.fit s rs) k = rw (check-held w s rs r k ∙ e) refl
 pub reply-done : (r : M.Reply) (w w' : Words) → isHeld (w .state) (w .area) ≡ true → checkAt w r ≡ none → lengths w' ≡ lengths w → Moved r w w' → OneMore r w w'
     → Replied r w w' H.Answer.done
 reply-done r w w' t e z v m =
-    replied-by (record { sized = z; holds = done-holds r w w' t e m; said = done-said r w t e }) (rw (t, e) refl) (λ q p. absurd (other q p)) (λ p. v)
+    replied-by (record { sized = z; holds = done-holds r w w' t e m; said = done-said r w t e })
+    (rw (t, e) refl) (λ q p. absurd (other q p)) (λ p. v)
 
 -- ---- the fit advanced
 

@@ -171,7 +171,9 @@ module _ (h : Shape) (a b : List Float) (some : 0 < h .n) (sound : Sound h (leng
           ∙ ap (word b) (sym split))
 
       go : (t : Bool) → ltb i (markAt h) ≡ t → Scratch h i ⊎ (word a i ≡ word b i)
-      go true e = inside (each-vector h (sound .ring) (sound .most) (view a (h .n)) (view b (h .n)) both q (div-lt-iff-lt-mul some .1 (ltb-true i (markAt h) e)))
+      go true e =
+          let few : q < 16 + 4 * h .m = div-lt-iff-lt-mul some .1 (ltb-true i (markAt h) e) in
+          inside (each-vector h (sound .ring) (sound .most) (view a (h .n)) (view b (h .n)) both q few)
       go false e = ⊎-elim (λ one. absurd (other (sym one))) (λ past. inl (Scratch.behind past)) (eq-or-lt-of-le (ltb-false i (markAt h) e))
 
   -- the other way: a vector that is not scratch is the same in both
@@ -186,7 +188,7 @@ module _ (h : Shape) (a b : List Float) (some : 0 < h .n) (sound : Sound h (leng
     vector-same q m n =
         let va = length-view a (h .n) q (room q (16 + 4 * h .m) (h .n) (length a) m (sound .all)) in
         let vb = length-view b (h .n) q (room q (16 + 4 * h .m) (h .n) (length b) m (subst (λ (x : ℕ). (16 + 4 * h .m) * h .n ≤ x) long (sound .all))) in
-        ext-getD Ieee.nan (view a (h .n) q) (view b (h .n) q) (va ∙ sym vb) (λ k l. sym (word-view a (h .n) q k (omega (arith, l, va))) ∙ at k (omega (arith, l, va)) ∙ word-view b (h .n) q k (omega (arith, l, va)))
+        ext-getD Ieee.nan (view a (h .n) q) (view b (h .n) q) (va ∙ sym vb) (λ k l. viewed k (omega (arith, l, va)))
       where
         at : (k : ℕ) → k < h .n → word a (q * h .n + k) ≡ word b (q * h .n + k)
         at k l =
@@ -196,6 +198,9 @@ module _ (h : Shape) (a b : List Float) (some : 0 < h .n) (sound : Sound h (leng
             go : Scratch h (q * h .n + k) ⊎ (word a (q * h .n + k) ≡ word b (q * h .n + k)) → word a (q * h .n + k) ≡ word b (q * h .n + k)
             go (inl s) = absurd (used q k m l n s)
             go (inr e) = e
+
+        viewed : (k : ℕ) → k < h .n → word (view a (h .n) q) k ≡ word (view b (h .n) q) k
+        viewed k l = sym (word-view a (h .n) q k l) ∙ at k l ∙ word-view b (h .n) q k l
 
     pub in-use : InUse h (view a (h .n)) (view b (h .n))
     in-use = record {

@@ -132,7 +132,8 @@ module _ (t : Fit) (a : List Float) (l : List ℕ) (j : ℕ) (test : isHeld t a 
       ∙ log-kept s (length l) rs (k .due) (omega (arith, k .words)) j (omega (arith, k .entries))
 
   -- the part for any words gives the part for a history
-  module _ (w : Words) (o : H.Answer) (sized : lengths w ≡ lengths was) (said : o ≡ stayAnswer (repliesLeft j was)) (h : TakesReplies (repliesLeft j was) was w) where
+  module _ (w : Words) (o : H.Answer) (sized : lengths w ≡ lengths was) (said : o ≡ stayAnswer (repliesLeft j was))
+      (h : TakesReplies (repliesLeft j was) was w) where
     taken-history : (s : Setup) (rs : List M.Reply) → Held was s rs → Held w s (drop j rs)
     taken-history s rs k =
         let left = subst (λ (q : Option (List M.Reply)). TakesReplies q was w) (history-left s rs k) h in

@@ -173,12 +173,14 @@ reply-exact {r} {w} {w'} {o} l = record {
     front f = length-take-le (w .state .words) (w .log) (omega (arith, room f .room))
 
     advanced : isRefused o ≡ false → Moved r w w' → Advanced r w w'
-    advanced f m = record {
-      machine = m .is;
-      setup = m .setup;
-      replies = m .entries;
-      log = ap (take (w' .state .words)) (m .log) ∙ to-entry (logIn w) (entryWords r) (drop (w' .state .words) (w .log)) (w .state .words) (w' .state .words) (front f) (m .words);
-    }
+    advanced f m =
+        let back = drop (w' .state .words) (w .log) in
+        record {
+          machine = m .is;
+          setup = m .setup;
+          replies = m .entries;
+          log = ap (take (w' .state .words)) (m .log) ∙ to-entry (logIn w) (entryWords r) back (w .state .words) (w' .state .words) (front f) (m .words);
+        }
 
     past : (b : Bool) → isRefused o ≡ b → Past w w'
     past true t = same-past (kept t)
@@ -234,7 +236,11 @@ back-by :
     → o ≡ refusedBy c (cond b (stayAnswer q) Answer.done) → Leaves b c q w w' → Back b c q w w' o
 back-by true (some r) q w w' o l e x = record { refused = λ t. x; result = λ f. absurd (true≢false (ap isRefused (sym e) ∙ f)); past = struck-none x }
 back-by false (some r) q w w' o l e x = record { refused = λ t. x; result = λ f. x; past = struck-none x }
-back-by true none (some rs) w w' o l e x = record { refused = λ t. absurd (not-refused t e refl); result = λ f. x .stands; past = struck (x .log) (l refl refl) }
+back-by true none (some rs) w w' o l e x = record {
+  refused = λ t. absurd (not-refused t e refl);
+  result = λ f. x .stands;
+  past = struck (x .log) (l refl refl);
+}
 back-by true none none w w' o l e x = record {
   refused = λ t. x;
   result = λ f. true≢false (ap isRefused (sym e) ∙ f);

@@ -1,5 +1,5 @@
--- After every list of calls that the history follows a refused call leaves every word, but for a reading in refused at an entry, which leaves the area all zero:
--- no taking back is refused at one. What any call leaves at any words stands in Exact. Assumes nothing.
+-- After every list of calls that the history follows a refused call leaves every word, but for a reading in refused at an entry, which leaves the area all
+-- zero: no taking back is refused at one. What any call leaves at any words stands in Exact. Assumes nothing.
 use Prim.Native.Nat.{ℕ}
 use native.Mathlib.Omega.{arith}
 use mathlib.Core.Path.{_≡_, refl, sym, ap, _∙_, subst}

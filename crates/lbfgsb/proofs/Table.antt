@@ -9,11 +9,11 @@ use mathlib.Core.Option.{Option, none, some}
 use lib.Dec.{ltb}
 use lib.ListN.{length}
 use borrow.Author.Tests.{lt-ltb, le-ltb, ne-eqb}
-use Rattle.definition.specs.Problem.{Check, refuse, when, _then_}
+use Rattle.definition.specs.Problem.{Setup, Refusal, Check, refuse, when, _then_, validate, areaNeeded}
 use Rattle.definition.specs.Machine.{Reply, Question, takes, checkDue, question, unreported}
 use Rattle.definition.specs.Log.{entryWords}
 use Rattle.definition.specs.Record.{plainRefusal, readRecord}
-use Rattle.definition.specs.History.{Call, Answer, refusalsOf, among, outputShort}
+use Rattle.definition.specs.History.{Call, Answer, refusalsOf, among, outputShort, restoredAnswer}
 use Rattle.definition.proofs.Tests.{by-test}
 use Rattle.definition.proofs.Numbered.{Numbered, AnswerNumbered, tested, both, opening, due, short, record-numbered, restores}
 use Rattle.driver.specs.Replies.{isHeld}
@@ -65,12 +65,15 @@ question-numbered room w = by-test N (isHeld (w .state) (w .area)) (λ _. go (qu
 report-numbered : (room : ℕ) (w : Words) → AnswerNumbered (refusalsOf (Call.report room)) (answerAt (Call.report room) w)
 report-numbered room w =
     let none = unreported (machineIn w .phase) in
+    let n = w .state .shape .n in
     by-test (AnswerNumbered (refusalsOf (Call.report room))) (isHeld (w .state) (w .area))
-    (λ _. by-check _ (both (when none (refuse 15 0 0)) (outputShort room (w .state .shape .n)) (tested none 15 0 0 refl) (short room (w .state .shape .n) refl)) tt)
+    (λ _. by-check _ (both (when none (refuse 15 0 0)) (outputShort room n) (tested none 15 0 0 refl) (short room n refl)) tt)
     (λ _. refl)
 
 -- a read of the log, which needs so many elements of its output
-log-read : (row : List ℕ) (w : Words) (room needed : ℕ) (held unheld : Answer) → among 12 row ≡ true → among 19 row ≡ true → AnswerNumbered row held → AnswerNumbered row unheld
+log-read :
+    (row : List ℕ) (w : Words) (room needed : ℕ) (held unheld : Answer) → among 12 row ≡ true → among 19 row ≡ true
+    → AnswerNumbered row held → AnswerNumbered row unheld
     → AnswerNumbered row (byHeld w (refusedBy (shortLog w then outputShort room needed) held) unheld)
 log-read row w room needed held unheld a b h u =
     by-test (AnswerNumbered row) (isHeld (w .state) (w .area))
@@ -88,6 +91,19 @@ answer-numbered Call.replies w = by-test (AnswerNumbered (refusalsOf Call.replie
 answer-numbered (Call.entry k room) w = log-read (refusalsOf (Call.entry k room)) w room (length (entryKept w k)) _ _ refl refl tt tt
 answer-numbered (Call.save room) w = log-read (refusalsOf (Call.save room)) w room (length (recordIn w)) _ _ refl refl tt tt
 
+-- ---- the order printed, at any words
+
+-- start: the setup's row whatever the area's length is, then 11; restore: as the definition reads the record; neither looks at what the words hold
+pub setup-first : (w : Words) (s : Setup) (r : Refusal) → validate s ≡ some r → answerAt (Call.start s) w ≡ Answer.refused r
+setup-first w s r e = rw e refl
+
+pub area-last : (w : Words) (s : Setup) → validate s ≡ none → length (w .area) < areaNeeded s
+    → answerAt (Call.start s) w ≡ Answer.refused (record { number = 11; first = areaNeeded s; second = 0 })
+area-last w s e l = rw (e, lt-ltb (length (w .area)) (areaNeeded s) l) refl
+
+pub read-by-definition : (w : Words) (bs : List ℕ) → answerAt (Call.restore bs) w ≡ restoredAnswer (readRecord (lengths w) bs)
+read-by-definition w bs = refl
+
 -- ---- the order printed, where a fit is held
 
 module _ (w : Words) (held : isHeld (w .state) (w .area) ≡ true) where
@@ -103,12 +119,17 @@ module _ (w : Words) (held : isHeld (w .state) (w .area) ≡ true) where
       → answerAt (Call.reply r) w ≡ Answer.refused (plainRefusal 12)
   room-last r e l = rw (held, e, lt-ltb (length (w .log)) (w .state .words + length (entryWords r)) l) refl
 
-  -- take back: 16 whatever the log's length is, then 12 whatever its entries are
+  -- take back: 16 whatever the log's length is, then 12 whatever its entries are, then 17 by an entry that is to stay
   pub too-many-first : (j : ℕ) → w .state .entries < j → answerAt (Call.takeBack j) w ≡ Answer.refused (plainRefusal 16)
   too-many-first j l = rw (held, lt-ltb (w .state .entries) j l) refl
 
-  pub short-before-entries : (j : ℕ) → j ≤ w .state .entries → length (w .log) < w .state .words → answerAt (Call.takeBack j) w ≡ Answer.refused (plainRefusal 12)
+  pub short-before-entries : (j : ℕ) → j ≤ w .state .entries → length (w .log) < w .state .words
+      → answerAt (Call.takeBack j) w ≡ Answer.refused (plainRefusal 12)
   short-before-entries j l s = rw (held, le-ltb (w .state .entries) j l, lt-ltb (length (w .log)) (w .state .words) s) refl
+
+  pub bad-entry-last : (j : ℕ) → j ≤ w .state .entries → w .state .words ≤ length (w .log) → repliesLeft j w ≡ none
+      → answerAt (Call.takeBack j) w ≡ Answer.refused (plainRefusal 17)
+  bad-entry-last j l s e = rw (held, le-ltb (w .state .entries) j l, le-ltb (length (w .log)) (w .state .words) s, e) refl
 
   -- reads: 15 and 12 whatever the output's length is
   pub unreported-first : (room : ℕ) → unreported (machineIn w .phase) ≡ true → answerAt (Call.report room) w ≡ Answer.refused (plainRefusal 15)

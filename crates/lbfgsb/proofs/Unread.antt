@@ -42,7 +42,9 @@ module _ (t : Fit) (a b : List Float) (l m : List ℕ) {s : Setup} {rs : List Re
       record {
         due = h .due;
         test = is-held t b (subst (λ (k : ℕ). isReady t k ≡ true) long (held-ready t a (h .test))) mark;
-        setup = setup-same (t .options) va vb (sym (used .low X0 (omega arith))) (sym (used .low Lower (omega arith))) (sym (used .low Upper (omega arith))) ∙ h .setup;
+        setup =
+            setup-same (t .options) va vb (sym (used .low X0 (omega arith))) (sym (used .low Lower (omega arith))) (sym (used .low Upper (omega arith)))
+            ∙ h .setup;
         is = same t va vb (pairs-in-use (t .shape) va vb (used .pairs)) (λ q k. sym (used .low q k)) ∙ h .is;
         settled = h .settled;
         entries = h .entries;

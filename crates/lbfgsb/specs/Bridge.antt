@@ -1,5 +1,6 @@
--- The definition's calls and answers, read off the code's arguments and results. Nothing proves that these few readings are the right ones: a reader must read them.
--- A field keeps its name (`refusalOf`, `reportOf`, `setupIn`, passed on from the crates below), a variant its sense (`replied`); programs of the gate print what they read.
+-- The definition's calls and answers, read off the code's arguments and results. Nothing proves that these few readings are the right ones: a reader must
+-- read them. A field keeps its name (`refusalOf`, `reportOf`, `setupIn`, passed on from the crates below), a variant its sense (`replied`); programs of the
+-- gate print what they read.
 use Prim.Native.Nat.{ℕ, zero, suc}
 use mathlib.Core.List.{List, [], _∷_}
 use mathlib.Core.Option.{none, some}

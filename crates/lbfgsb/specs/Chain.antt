@@ -281,7 +281,8 @@ pub record Asks (s : Setup) (q : Question) : Type 0 where
 
 -- ---- lists alike
 
--- Scratch are the area's vectors 8 to 15 (Velocity to Step), the two of a place of the ring that no pair is in, the columns of W, and the words behind the mark.
+-- Scratch are the area's vectors 8 to 15 (Velocity to Step), the two of a place of the ring that no pair is in, the columns of W, and the words behind the
+-- mark.
 -- `Unused h p`: of the pairs, oldest first, none is in place p.
 abbrev pub Unused : Shape → ℕ → Type 0
 Unused h p = (k : ℕ) → k < h .pairs → wrap (h .m) (h .oldest + k) ≡ p → ⊥

@@ -1,6 +1,7 @@
 -- Document 01's table, "refusals by place": what each call answers at any words at all, held or not. A refusal is given if its condition holds and no
 -- earlier one does, in the order printed, with its details; `refusedBy` of checks joined by `then` says just that.
--- What words hold is read off them: the test for a held fit (`isHeld`), the machine (`machineIn`), the setup (`setupOf`), the log up to its last entry (`logIn`).
+-- What words hold is read off them: the test for a held fit (`isHeld`), the machine (`machineIn`), the setup (`setupOf`), the log up to its last entry
+-- (`logIn`).
 use Prim.Native.Nat.{ℕ, _+_, _-_}
 use mathlib.Core.Bool.{Bool, true, false, cond, _&&_}
 use mathlib.Core.List.{List, []}

@@ -66,7 +66,8 @@ reported false r = refl
 
 held-answered : (w : Words) (s : P.Setup) (rs : List M.Reply) → Held w s rs → answered (reportAnswer w 64) ≡ printedFit (run s rs)
 held-answered w s rs h =
-    rw (h .stands .test, le-ltb 64 (w .state .shape .n) (held-n h)) (reported (M.unreported (machineIn w .phase)) (M.report (machineIn w)) ∙ ap printedFit (h .stands .is))
+    rw (h .stands .test, le-ltb 64 (w .state .shape .n) (held-n h))
+    (reported (M.unreported (machineIn w .phase)) (M.report (machineIn w)) ∙ ap printedFit (h .stands .is))
 
 fit-go : (z : Reading) (f : Fit) (a : List Float) (l : List ℕ) (t : Told) (x : List Float) → Taken z (A.Kept f) a l
     → told t (f .shape .n) x ≡ reportAnswer (words f a l) 64 → (f .shape .n ≤ 64) × (printedAs t (f .shape .n) x ≡ printedOf z)
