@@ -1,4 +1,4 @@
--- Demand 3, in document 01's words: lists of calls, where they may start, and what is claimed of each.
+-- Demands 1 and 3, in document 01's words: lists of calls, where they may start, and what is claimed of each.
 -- `D c w w' o` is "the call c at the words w left w' and answered o": proofs/Trace.antt puts the contracts of the exported functions there,
 -- and the crate `script` what is known of each of its steps (`Did.Stepped`).
 -- The history is document 01's book (`historyAfter`, from the empty one), its replies newest first; `Ordered` has them in the order given.
