@@ -65,8 +65,9 @@ unheld-said : (w : Words) (r : M.Reply) → isHeld (w .state) (w .area) ≡ fals
 unheld-said w r e History.empty k = refl
 unheld-said w r e (History.fit s rs) k = absurd (false≢true (sym e ∙ k .stands .test))
 
-replied-by : {r : M.Reply} {w w' : Words} {o : H.Answer} → Did (Call.reply r) w w' o → o ≡ replyAnswer w r → Refuses o w w' → (o ≡ H.Answer.done → Moved r w w')
-    → Replied r w w' o
+replied-by :
+    {r : M.Reply} {w w' : Words} {o : H.Answer} → Did (Call.reply r) w w' o → o ≡ replyAnswer w r → Refuses o w w'
+    → (o ≡ H.Answer.done → Moved r w w') → Replied r w w' o
 replied-by d e k m = record { did = d; always = e; refuses = k; moved = m }
 
 pub reply-unheld : (r : M.Reply) (w : Words) → isHeld (w .state) (w .area) ≡ false → Replied r w w (H.Answer.refused (plainRefusal 13))

@@ -87,7 +87,9 @@ module _ (h : Shape) (ring : h .oldest < h .m) (most : h .pairs ≤ h .m) where
   low-used q l (ScratchVector.column e f) = omega (arith, l, e)
 
   -- nor is one of a place that a pair is in
-  place-used : (k p q : ℕ) → k < h .pairs → wrap (h .m) (h .oldest + k) ≡ p → p < h .m → (q ≡ 16 + 2 * p) ⊎ (q ≡ 16 + 2 * p + 1) → ScratchVector h q → ⊥
+  place-used :
+      (k p q : ℕ) → k < h .pairs → wrap (h .m) (h .oldest + k) ≡ p → p < h .m → (q ≡ 16 + 2 * p) ⊎ (q ≡ 16 + 2 * p + 1)
+      → ScratchVector h q → ⊥
   place-used k p q l e m (inl x) (ScratchVector.between u f) = omega (arith, x, f)
   place-used k p q l e m (inr x) (ScratchVector.between u f) = omega (arith, x, f)
   place-used k p q l e m (inl x) (ScratchVector.place r n u (inl y)) = u k l (e ∙ omega (arith, x, y))

@@ -57,7 +57,8 @@ entry-17 w j e = go (isHeld (w .state) (w .area)) (checkBack w j) (repliesLeft j
     go true (some r) q e = absurd (false≢true e)
     go false c q e = absurd (false≢true e)
 
-never-at-entry : {j : ℕ} {w w' : Words} {o : Answer} → Called (Call.takeBack j) w w' o → (h : History) → Holds w h → entryRefused (Call.takeBack j) w ≡ false
+never-at-entry :
+    {j : ℕ} {w w' : Words} {o : Answer} → Called (Call.takeBack j) w w' o → (h : History) → Holds w h → entryRefused (Call.takeBack j) w ≡ false
 never-at-entry {j} {w} {w'} {o} d h k = go (entryRefused (Call.takeBack j) w) refl
   where
     go : (b : Bool) → entryRefused (Call.takeBack j) w ≡ b → b ≡ false

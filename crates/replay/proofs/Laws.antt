@@ -195,7 +195,8 @@ reached-first t a ws limit room h e w =
     }
 
 -- the words replayed are no more than the test lets pass
-few-words : (s : P.Setup) (ws : List ℕ) (rs : List M.Reply) (k : ℕ) → Replayable s ws → Due s rs → k ≡ length (logWords rs) → k ≤ length ws → k < mostWords
+few-words : (s : P.Setup) (ws : List ℕ) (rs : List M.Reply) (k : ℕ) → Replayable s ws → Due s rs
+    → k ≡ length (logWords rs) → k ≤ length ws → k < mostWords
 few-words s ws rs k (inl c) d e h = omega (arith, log-few s rs c d)
 few-words s ws rs k (inr l) d e h = omega arith
 

@@ -55,7 +55,9 @@ put-record-requires : tie.Need-put-record-requires
 put-record-requires c κs =
     let short = c .before .before .before .before in
     let held = short .before in
-    (held-placed _ _ (sym (held .before .is-held .ensures) ∙ not-false _ (held .if1 .left)), short .if2 .left, omega (arith, c .before .before .setup-words .ensures, c .before .if3 .left))
+    let setup = c .before .before .setup-words in
+    let placed = held-placed _ _ (sym (held .before .is-held .ensures) ∙ not-false _ (held .if1 .left)) in
+    (placed, short .if2 .left, omega (arith, setup .ensures, c .before .if3 .left))
 
 returns-4 : tie.Need-returns-4
 returns-4 c =
