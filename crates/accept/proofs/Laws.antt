@@ -8,11 +8,11 @@ use native.Mathlib.Numerals.{add-one}
 use lib.ListN.{length, take, drop, set, getD, length-append, length-set}
 use lib.Seq.{take-at, take-length, length-take-le, sets-eq, length-sets, paste, paste-zero, paste-suc}
 use lib.Ieee.{Float}
-use Rattle.definition.specs.Problem.{Setup}
 use Rattle.definition.specs.Machine as M
 use Rattle.definition.specs.Machine.{Machine, checkDue}
 use Rattle.definition.specs.Driver.{run, answer}
 use Rattle.definition.specs.Log.{entryWords, logWords}
+use Rattle.definition.specs.Book.{Book, withReply}
 use Rattle.definition.proofs.Entries.{log-more, words-some}
 use Rattle.fit.specs.State.{machineOf}
 use Rattle.fit.specs.declared.Fit.{Fit}
@@ -71,27 +71,27 @@ written-length at ws l h = ap length (sym (sets-eq ws l at h)) ∙ length-sets l
 
 -- ---- one more reply
 
-pub reached-advanced : {r : M.Reply} {t f : Fit} {a b : List Float} {s : Setup} {rs : List M.Reply}
-    → Reached t a s rs → checkDue (machineOf t a) r ≡ none → length b ≡ length a → Advances r t a f b → Reached f b s (r ∷ rs)
+pub reached-advanced : {r : M.Reply} {t f : Fit} {a b : List Float} {k : Book}
+    → Reached t a k → checkDue (machineOf t a) r ≡ none → length b ≡ length a → Advances r t a f b → Reached f b (withReply r k)
 unfolding run
-reached-advanced {r} {t} {f} {a} {b} {s} {rs} h d z k = record {
+reached-advanced {r} {t} {f} {a} {b} {k} h d z v = record {
   accepted = h .accepted;
   due = (ap (λ (m : Machine). checkDue m r) (sym (h .is)) ∙ d, h .due);
-  setup = k .setup ∙ h .setup;
-  is = k .is ∙ ap (λ (m : Machine). answer m r) (h .is);
-  sound = rw z (k .sound);
+  setup = v .setup ∙ h .setup;
+  is = v .is ∙ ap (λ (m : Machine). answer m r) (h .is);
+  sound = rw z (v .sound);
   area = rw z (h .area);
-  settled = k .settled (h .settled);
-  entries = omega (arith, k .entries, h .entries);
-  words = omega (arith, k .words, h .words, log-more r rs);
+  settled = v .settled (h .settled);
+  entries = omega (arith, v .entries, h .entries);
+  words = omega (arith, v .words, h .words, log-more r (k .replies));
 }
 
 -- it is held, its entry written into the log
-pub held-advanced : {r : M.Reply} {t f : Fit} {a b : List Float} {l : List ℕ} {s : Setup} {rs : List M.Reply}
-    → Held (words t a l) s rs → checkDue (machineOf t a) r ≡ none → t .words + length (entryWords r) ≤ length l → length b ≡ length a → Advances r t a f b
-    → Held (words f b (written (t .words) (entryWords r) l)) s (r ∷ rs)
+pub held-advanced : {r : M.Reply} {t f : Fit} {a b : List Float} {l : List ℕ} {k : Book}
+    → Held (words t a l) k → checkDue (machineOf t a) r ≡ none → t .extra .words + length (entryWords r) ≤ length l → length b ≡ length a → Advances r t a f b
+    → Held (words f b (written (t .extra .words) (entryWords r) l)) (withReply r k)
 unfolding logWords
-held-advanced {r} {t} {f} {a} {b} {l} h d w z k =
-    reached-held (reached-advanced (held-reached h) d z k) (k .mark)
-    (rw (written-length (t .words) (entryWords r) l w) (omega (arith, k .words)))
-    (rw (k .words) (logged (t .words) l (entryWords r) (h .stands .room)) ∙ ap (λ (q : List ℕ). q ++ entryWords r) (h .stands .log))
+held-advanced {r} {t} {f} {a} {b} {l} h d w z v =
+    reached-held (reached-advanced (held-reached h) d z v) (v .mark)
+    (rw (written-length (t .extra .words) (entryWords r) l w) (omega (arith, v .words)))
+    (rw (v .words) (logged (t .extra .words) l (entryWords r) (h .stands .room)) ∙ ap (λ (q : List ℕ). q ++ entryWords r) (h .stands .log))

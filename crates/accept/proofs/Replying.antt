@@ -7,35 +7,42 @@ use mathlib.Core.List.{List, map}
 use mathlib.Core.Option.{none}
 use borrow.Author.Tests.{lt-ltb, le-ltb, ltb-false, eq-eqb, ne-eqb, eqb-true, not-false}
 use lib.Dec.{eqb, ltb}
-use lib.ListN.{length, take, drop}
+use lib.ListN.{length, take, drop, replicate, length-replicate}
 use lib.Seq.{take-length}
 use lib.Ieee.{Float}
 use Rattle.definition.specs.Number.{toFloat}
-use Rattle.definition.specs.Problem.{Check, Terms, refuse, when, _then_}
+use Rattle.definition.specs.Problem.{Check, Terms, mostCoordinates, refuse, when, _then_}
 use Rattle.definition.specs.Machine as M
 use Rattle.definition.specs.Machine.{Machine, kindOf, suits, takes, checkLength, checkDue}
 use Rattle.definition.specs.Driver.{answer, answerIn, withGradient, onGradient}
 use Rattle.definition.specs.Log.{entryWords}
 use Rattle.definition.proofs.Accepted.{both-passed, test-failed, due-taken}
-use Rattle.area.specs.Area.{Vecs, view, upd, X0, TrialGradient}
+use Rattle.area.specs.Area.{Vecs, view, upd, Saved, X0, TrialGradient}
+use Rattle.area.proofs.Laws.{saved-refl, saved-trans, saved-upd}
 use Rattle.compact.specs.State.{Sound}
 use Rattle.fit.specs.State.{machine, machineOf, phaseOf, Steps}
+use Rattle.fit.specs.declared.Extra.{Extra}
 use Rattle.fit.specs.declared.Fit.{Fit}
 use Rattle.fit.proofs.Laws.{put}
+use Rattle.problem.specs.Setups.{checkOf}
+use Rattle.problem.specs.declared.Checked.{Checked}
+use Rattle.problem.specs.declared.Checked.the-variants.{Passed, Refused}
 use Rattle.problem.specs.declared.Options.{Options}
+use Rattle.problem.specs.declared.Refusal.{Refusal}
 use Rattle.opening.specs.Opened.{setupAt}
 use Rattle.record.specs.Records.{entrySize}
 use Rattle.replay.specs.Replays.{withLog}
-use Rattle.driver.specs.Replies.{replyOf, suppliedIn, advanced, Marks, mostWords}
+use Rattle.driver.specs.Replies.{suppliedIn, advanced, Marks, mostWords}
 use Rattle.driver.specs.declared.Reply.{Reply}
 use Rattle.driver.specs.declared.Reply.the-variants as R
 use Rattle.driver.proofs.Laws.{marked-machine}
+use Rattle.driver.proofs.Steps.{DueSaid, due-then}
 use Rattle.replay.specs.Taken.{replied}
-use Rattle.replay.proofs.Entries.{suits-replied}
 use Rattle.replay.proofs.Answers.{terms-stay}
 use Rattle.question.specs.Reports.{Within}
 use Rattle.accept.specs.Moves.{entryKind, stored, checkSaid, Advances}
-use Rattle.held.proofs.Laws.{setup-same, marked-setup}
+use Rattle.accept.proofs.Checks.{passed, first-refuses, rest-decides}
+use Rattle.held.proofs.Laws.{setup-same, marked-setup, marks-saved}
 
 -- ---- 14: the length of a gradient
 
@@ -54,14 +61,6 @@ wrong-length n R.NotSupplied ws e h = absurd (omega arith)
 wrong-length n R.GoOn ws e h = absurd (omega arith)
 wrong-length n R.Stop ws e h = absurd (omega arith)
 wrong-length n R.Failure ws e h = absurd (omega arith)
-
-pub right-length : (n : ℕ) (r : Reply) (ws : List ℕ) → entryKind r ≡ 2 → length ws ≡ n → none ≡ checkLength n (replied r ws)
-right-length n (R.Value v) ws e h = refl
-right-length n R.Gradient ws e h = rw (eq-eqb (length ws) n h) refl
-right-length n R.NotSupplied ws e h = refl
-right-length n R.GoOn ws e h = refl
-right-length n R.Stop ws e h = refl
-right-length n R.Failure ws e h = refl
 
 -- a gradient whose length passed has n words
 pub length-passed : (n : ℕ) (r : Reply) (ws : List ℕ) → checkLength n (replied r ws) ≡ none → entryKind r ≡ 2 → length ws ≡ n
@@ -85,7 +84,7 @@ entry-size n R.GoOn ws h = refl
 entry-size n R.Stop ws h = refl
 entry-size n R.Failure ws h = refl
 
-pub entry-few : (n : ℕ) (r : Reply) → n ≤ 64 → entrySize (entryKind r) n < mostWords
+pub entry-few : (n : ℕ) (r : Reply) → n ≤ mostCoordinates → entrySize (entryKind r) n < mostWords
 entry-few n (R.Value v) h = omega arith
 entry-few n R.Gradient h = omega arith
 entry-few n R.NotSupplied h = omega arith
@@ -103,24 +102,29 @@ some-room room words length h = rw (le-ltb room (words + length) h) refl
 
 -- ---- the whole check
 
--- whether the reply suits, as the code asks it
-pub suits-said : {b : Bool} {k : ℕ} (t : Fit) (a : List Float) (r : Reply) (ws : List ℕ) → k ≡ kindOf (phaseOf (t .phase)) → ((m : Machine) → b ≡ suits k (replyOf r m))
-    → takes (machineOf t a) (replied r ws) ≡ b
-suits-said t a r ws e h = sym (h (machineOf t a) ∙ suits-replied _ r (machineOf t a) ws ∙ ap (λ (k : ℕ). suits k (replied r ws)) e)
+-- what `check_due` says, and with it the length
+module _ (t : Fit) (a : List Float) (r : Reply) (ws : List ℕ) (c : Checked) (said : DueSaid t r c) where
+  abbrev any : List ℕ
+  any = replicate (t .shape .n) 0
 
-pub said-undue : {k : Check} (t : Fit) (a : List Float) (room : ℕ) (q : M.Reply) → k ≡ refuse 13 0 0 → takes (machineOf t a) q ≡ false → k ≡ checkSaid t a room q
-said-undue t a room q e h = e ∙ rw h refl
+  said-any : checkOf c ≡ checkDue (machineOf t a) (replied r any)
+  said-any = said (view a (t .shape .n)) any (length-replicate (t .shape .n) 0)
 
-pub said-due : (t : Fit) (a : List Float) (room : ℕ) (q : M.Reply) → takes (machineOf t a) q ≡ true
-    → (checkLength (t .shape .n) q then when (ltb room (t .words + length (entryWords q))) (refuse 12 0 0)) ≡ checkSaid t a room q
-said-due t a room q h = rw h refl
+  then-length : (checkDue (machineOf t a) (replied r any) then checkLength (t .shape .n) (replied r ws)) ≡ checkDue (machineOf t a) (replied r ws)
+  then-length = due-then (machineOf t a) r ws any (length-replicate (t .shape .n) 0)
+
+  pub said-undue : {q : Refusal} → c ≡ Refused q → checkOf c ≡ checkDue (machineOf t a) (replied r ws)
+  said-undue e = first-refuses _ e said-any ∙ then-length
+
+  pub said-due : c ≡ Passed → checkLength (t .shape .n) (replied r ws) ≡ checkDue (machineOf t a) (replied r ws)
+  said-due e = rest-decides _ (passed e said-any) ∙ then-length
 
 -- the check passed: the reply is due, and its entry has room
 pub said-passed : (t : Fit) (a : List Float) (l : List ℕ) (r : M.Reply) → checkSaid t a (length l) r ≡ none
-    → (checkDue (machineOf t a) r ≡ none) × (t .words + length (entryWords r) ≤ length l)
+    → (checkDue (machineOf t a) r ≡ none) × (t .extra .words + length (entryWords r) ≤ length l)
 said-passed t a l r e =
-    let p = both-passed (checkDue (machineOf t a) r) (when (ltb (length l) (t .words + length (entryWords r))) (refuse 12 0 0)) e in
-    (p .0, ltb-false (length l) _ (test-failed (ltb (length l) (t .words + length (entryWords r))) _ (p .1)))
+    let p = both-passed (checkDue (machineOf t a) r) (when (ltb (length l) (t .extra .words + length (entryWords r))) (refuse 12 0 0)) e in
+    (p .0, ltb-false (length l) _ (test-failed (ltb (length l) (t .extra .words + length (entryWords r))) _ (p .1)))
 
 -- ---- a gradient's words in the area
 
@@ -143,14 +147,14 @@ is-stored n R.GoOn ws v w e h k = absurd (omega arith)
 is-stored n R.Stop ws v w e h k = absurd (omega arith)
 is-stored n R.Failure ws v w e h k = absurd (omega arith)
 
--- the start and the bounds stay
-pub stored-low : (r : Reply) (ws : List ℕ) (v : Vecs) → stored r ws v X0 ≡ v X0
-stored-low (R.Value w) ws v = refl
-stored-low R.Gradient ws v = refl
-stored-low R.NotSupplied ws v = refl
-stored-low R.GoOn ws v = refl
-stored-low R.Stop ws v = refl
-stored-low R.Failure ws v = refl
+-- the start and the free vectors stay
+stored-saved : (r : Reply) (ws : List ℕ) (v : Vecs) → Saved v (stored r ws v)
+stored-saved (R.Value w) ws v = saved-refl
+stored-saved R.Gradient ws v = saved-upd TrialGradient (map toFloat ws) (omega arith) (λ e. omega arith) saved-refl
+stored-saved R.NotSupplied ws v = saved-refl
+stored-saved R.GoOn ws v = saved-refl
+stored-saved R.Stop ws v = saved-refl
+stored-saved R.Failure ws v = saved-refl
 
 -- ---- the fit advanced
 
@@ -178,7 +182,7 @@ said-answer t v R.Failure ws h = refl
 pub advances : (t : Fit) (a b : List Float) (r : Reply) (ws : List ℕ) (f : Fit) (d e : List Float) (k : ℕ)
     → Sound (t .shape) (length a) → Within (t .phase) (t .shape .n) → checkDue (machineOf t a) (replied r ws) ≡ none → view b (t .shape .n) ≡ stored r ws (view a (t .shape .n))
     → Steps (advanced r) t b f d → length d ≡ length a → Marks (f .shape) d e → k ≡ length (entryWords (replied r ws))
-    → Advances (replied r ws) t a (withLog (f .entries + 1) (f .words + k) f) e
+    → Advances (replied r ws) t a (withLog (f .extra .entries + 1) (f .extra .words + k) f) e
 advances t a b r ws f d e k s i c g h z m l =
     let q = replied r ws in
     let takes-it = due-taken (machineOf t a) q c in
@@ -186,8 +190,10 @@ advances t a b r ws f d e k s i c g h z m l =
     let is : machineOf f d ≡ answer (machineOf t a) q =
     h .is ∙ ap (λ (v : Vecs). advanced r (machine t v)) g ∙ said-answer t (view a (t .shape .n)) r ws takes-it in
     let terms : machineOf f d .terms ≡ machineOf t a .terms = ap (λ (m : Machine). m .terms) is ∙ terms-stay t (view a (t .shape .n)) q i takes-it in
-    let x0 : view d (f .shape .n) X0 ≡ view a (t .shape .n) X0 =
-    ap (λ (n : ℕ). view d n X0) (h .n) ∙ h .x0 ∙ ap (λ (v : Vecs). v X0) g ∙ stored-low r ws (view a (t .shape .n)) in
+    let saved : Saved (view a (t .shape .n)) (view d (t .shape .n)) =
+    saved-trans (stored-saved r ws (view a (t .shape .n))) (rw g at (h .saved)) in
+    let x0 : view d (f .shape .n) X0 ≡ view a (t .shape .n) X0 = ap (λ (n : ℕ). view d n X0) (h .n) ∙ saved .x0 in
+    let marked : Saved (view d (t .shape .n)) (view e (t .shape .n)) = rw (h .n) at (marks-saved m) in
     record {
       n = h .n;
       m = h .m;
@@ -197,8 +203,9 @@ advances t a b r ws f d e k s i c g h z m l =
           marked-setup (f .options) f d e m
           ∙ setup-same (f .options) (view a (t .shape .n)) (view d (f .shape .n)) x0 (ap (λ (k : Terms). k .bounds .lower) terms) (ap (λ (k : Terms). k .bounds .upper) terms)
           ∙ ap (λ (o : Options). setupAt o (view a (t .shape .n))) (h .kept .options);
+      saved = saved-trans saved marked;
       mark = m .mark;
       is = marked-machine f d e (rw z sound) m ∙ is;
-      entries = ap (λ (i : ℕ). i + 1) (h .kept .entries);
-      words = λ i. h .kept .words i + l i;
+      entries = ap (λ (x : Extra). x .entries + 1) (h .kept .extra);
+      words = λ i. h .kept .extra i .words + l i;
     }

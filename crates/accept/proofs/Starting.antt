@@ -11,6 +11,7 @@ use lib.Ieee.{Float}
 use Rattle.definition.specs.Problem as P
 use Rattle.definition.specs.Problem.{_then_, validate, areaNeeded}
 use Rattle.definition.specs.Log.{logWords}
+use Rattle.definition.specs.Book.{openedBook}
 use Rattle.definition.specs.Record.{checkArea}
 use Rattle.definition.proofs.Accepted.{both-passed, test-failed}
 use Rattle.area.proofs.Sizes.{behind}
@@ -37,13 +38,12 @@ start-room o x0 l u size k e =
 
 -- the fit just opened
 pub start-reached : (s : P.Setup) (o : Options) (n k : ℕ) (a b : List Float) (t : Fit)
-    → (validate s then checkArea (record { area = length a; log = k }) s) ≡ none → length b ≡ length a → Opened o n s (length a) t b → Reached t b s []
-start-reached s o n k a b t e z h =
+    → (validate s then checkArea (record { area = length a; log = k }) s) ≡ none → Opened o n s a t b → Reached t b (openedBook s)
+start-reached s o n k a b t e h =
     let p = both-passed (validate s) (checkArea (record { area = length a; log = k }) s) e in
     let room = ltb-false (length a) (areaNeeded s) (test-failed (ltb (length a) (areaNeeded s)) _ (p .1)) in
-    let h' : Opened o n s (length b) t b = rw z h in
-    opened-reached (p .0) (rw z room) h'
+    opened-reached (p .0) (rw (h .long) room) h
 
-pub start-held : {t : Fit} {a b : List Float} {s : P.Setup} (l : List ℕ) → Reached t a s [] → Marks (t .shape) a b → Held (words t b l) s []
+pub start-held : {t : Fit} {a b : List Float} {s : P.Setup} (l : List ℕ) → Reached t a (openedBook s) → Marks (t .shape) a b → Held (words t b l) (openedBook s)
 unfolding logWords
 start-held l h m = reached-held (reached-marked h m) (m .mark) (rw (h .words) (omega arith)) (rw (h .words) refl)

@@ -12,7 +12,7 @@ use Rattle.definition.specs.Machine as M
 use Rattle.definition.specs.Machine.{checkDue}
 use Rattle.definition.specs.Driver.{answer}
 use Rattle.definition.specs.Log.{entryWords}
-use Rattle.area.specs.Area.{Vecs, view, upd, TrialGradient}
+use Rattle.area.specs.Area.{Vecs, view, upd, Saved, TrialGradient}
 use Rattle.compact.specs.State.{Sound}
 use Rattle.search.specs.State.{Settled}
 use Rattle.fit.specs.State.{machineOf}
@@ -42,7 +42,7 @@ stored R.Failure ws v = v
 
 -- whether the reply is due, and then whether its entry has room in a log of `room` words
 abbrev pub checkSaid : Fit → List Float → ℕ → M.Reply → Check
-checkSaid t a room r = checkDue (machineOf t a) r then when (ltb room (t .words + length (entryWords r))) (refuse 12 0 0)
+checkSaid t a room r = checkDue (machineOf t a) r then when (ltb room (t .extra .words + length (entryWords r))) (refuse 12 0 0)
 
 -- f with the marked area b is t with a advanced by the reply r, which is counted
 pub record Advances (r : M.Reply) (t : Fit) (a : List Float) (f : Fit) (b : List Float) : Type 0 where
@@ -51,7 +51,8 @@ pub record Advances (r : M.Reply) (t : Fit) (a : List Float) (f : Fit) (b : List
   pub sound : Sound (f .shape) (length a)
   pub settled : Settled (t .search) (t .trials) → Settled (f .search) (f .trials)
   pub setup : setupAt (f .options) (view b (f .shape .n)) ≡ setupAt (t .options) (view a (t .shape .n))
+  pub saved : Saved (view a (t .shape .n)) (view b (t .shape .n))
   pub mark : marked (f .shape) b ≡ true
   pub is : machineOf f b ≡ answer (machineOf t a) r
-  pub entries : f .entries ≡ t .entries + 1
-  pub words : f .words ≡ t .words + length (entryWords r)
+  pub entries : f .extra .entries ≡ t .extra .entries + 1
+  pub words : f .extra .words ≡ t .extra .words + length (entryWords r)

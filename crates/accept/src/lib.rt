@@ -1,17 +1,18 @@
 // What a start and a reply are checked for, the entry of a reply in the log, and the fit that it advances.
 ghost use mathlib.Core.Path.{_≡_};
 ghost use mathlib.Core.Bool.{true};
-ghost use mathlib.Core.List.{List, []};
+ghost use mathlib.Core.List.{List};
 ghost use mathlib.Core.Option.{none};
 ghost use Prim.Native.Nat.{ℕ, _+_, _-_, _*_, _≤_};
 ghost use lib.Dec.{ltb};
 ghost use lib.Ieee.{Float};
 ghost use lib.ListN.{length};
-ghost use Rattle.definition.specs.Problem.{refuse, when, _then_, validate, areaWords};
+ghost use Rattle.definition.specs.Problem.{refuse, when, _then_, validate, mostCoordinates, areaWords};
 ghost use Rattle.definition.specs.Machine.{checkLength, checkDue};
 ghost use Rattle.definition.specs.Log.{entryWords};
+ghost use Rattle.definition.specs.Book.{openedBook};
 ghost use Rattle.definition.specs.Record.{checkArea};
-ghost use Rattle.area.specs.Area.{view};
+ghost use Rattle.area.specs.Area.{view, firstPair};
 ghost use Rattle.problem.specs.Setups.{setupIn, placesIn, checkOf};
 ghost use Rattle.fit.specs.State.{machineOf};
 ghost use Rattle.driver.specs.Replies.{isReady};
@@ -27,7 +28,7 @@ use problem::Options;
 
 // The area is too short for the setup.
 fn check_area(o: Options, n: usize, size: usize) -> Checked
-    requires { ⌜ (n ≤ 64) × (placesIn o ≤ 16) ⌝ }
+    requires { ⌜ (n ≤ mostCoordinates) × (placesIn o ≤ 16) ⌝ }
     ensures { λ r. ⌜ (let k = areaWords n (placesIn o) in checkOf r ≡ when (ltb size k) (refuse 11 k 0)) ⌝ }
 {
     let needed = area::words(n, problem::places(o));
@@ -51,7 +52,7 @@ pub fn check_start(o: Options, x0: &[f64], lower: &[f64], upper: &[f64], size: u
 // The fit of a setup that passed, at its first question: no entry is in the log.
 pub fn opened(o: Options, area: &mut [f64], x0: &[f64], lower: &[f64], upper: &[f64]) -> Fit
     requires { ⌜ (let s = setupIn o (now x0) (now lower) (now upper) in (validate s then checkArea (record { area = length (now area); log = 0 }) s) ≡ none) ⌝ }
-    ensures { λ f. ⌜ ((l : List ℕ) → Held (words f (now (area .exit)) l) (setupIn o (now (x0 .entry)) (now (lower .entry)) (now (upper .entry))) []) ⌝ }
+    ensures { λ f. ⌜ ((l : List ℕ) → Held (words f (now (area .exit)) l) (openedBook (setupIn o (now (x0 .entry)) (now (lower .entry)) (now (upper .entry))))) ⌝ }
 {
     let f = opening::begin(o, area, x0, lower, upper);
     let h = f.shape;
@@ -103,19 +104,19 @@ fn check_room(words: usize, length: usize, room: usize) -> Checked
 
 // 13, 14 and 12 for a reply with the gradient's words beside it.
 pub fn check_reply(t: Fit, r: Reply, gradient: usize, room: usize) -> Checked
-    requires { ⌜ t .shape .n ≤ 64 ⌝ }
+    requires { ⌜ t .shape .n ≤ mostCoordinates ⌝ }
     ensures { λ c. ⌜ ((a : List Float) (ws : List ℕ) → length ws ≡ gradient → checkOf c ≡ checkSaid t a room (replied r ws)) ⌝ }
 {
-    let p = t.phase;
-    if !driver::suits(question::kind_of(p), r) {
-        return problem::refused(13, 0, 0);
-    }
-    let n = t.shape.n;
-    let due = check_length(r, gradient, n);
+    let due = driver::check_due(t, r);
     let Checked::Passed = due else {
         return due;
     };
-    check_room(t.words, record::entry_length(kind_of(r), n), room)
+    let n = t.shape.n;
+    let sized = check_length(r, gradient, n);
+    let Checked::Passed = sized else {
+        return sized;
+    };
+    check_room(t.extra.words, record::entry_length(kind_of(r), n), room)
 }
 
 // The words of a gradient into the log.
@@ -150,7 +151,7 @@ fn log_entry(log: &mut [u64], at: usize, r: Reply, gradient: &[u64])
 
 // The words of a gradient into the area, as the trial's gradient; no other reply brings any.
 fn put_gradient(area: &mut [f64], n: usize, r: Reply, gradient: &[u64])
-    requires { ⌜ (16 * n ≤ length (now area)) × (entryKind r ≡ 2 → length (now gradient) ≡ n) ⌝ }
+    requires { ⌜ (firstPair * n ≤ length (now area)) × (entryKind r ≡ 2 → length (now gradient) ≡ n) ⌝ }
     ensures { λ _. ⌜ view (now (area .exit)) n ≡ stored r (now (gradient .entry)) (view (now (area .entry)) n) ⌝ }
 {
     if kind_of(r) != 2 {
@@ -175,8 +176,8 @@ fn advanced(t: Fit, area: &mut [f64], r: Reply, gradient: &[u64]) -> Fit
 // A reply that passed, into the log and into the fit.
 pub fn keep(t: Fit, area: &mut [f64], log: &mut [u64], r: Reply, gradient: &[u64]) -> Fit
     requires { ⌜ (isReady t (length (now area)) ≡ true) × (checkSaid t (now area) (length (now log)) (replied r (now gradient)) ≡ none) ⌝ }
-    ensures { λ f. ⌜ Advances (replied r (now (gradient .entry))) t (now (area .entry)) f (now (area .exit)) × (now (log .exit) ≡ written (t .words) (entryWords (replied r (now (gradient .entry)))) (now (log .entry))) ⌝ }
+    ensures { λ f. ⌜ Advances (replied r (now (gradient .entry))) t (now (area .entry)) f (now (area .exit)) × (now (log .exit) ≡ written (t .extra .words) (entryWords (replied r (now (gradient .entry)))) (now (log .entry))) ⌝ }
 {
-    log_entry(log, t.words, r, gradient);
+    log_entry(log, t.extra.words, r, gradient);
     advanced(t, area, r, gradient)
 }

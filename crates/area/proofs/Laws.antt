@@ -17,7 +17,7 @@ use borrow.Author.Needs.{needs}
 use borrow.Author.Tests.{eqb-true, eqb-false, ne-eqb, ltb-true, ltb-false}
 use borrow.Rule.Slice.PartMut.{putMid, same-len-mid}
 use Rattle.definition.specs.Vector.{tab, word, foldTo}
-use Rattle.area.specs.Area.{part, fill, view, upd, Vecs, rowwise, foldRows, putWord, loopTo, ScratchOnly}
+use Rattle.area.specs.Area.{part, fill, view, upd, Vecs, rowwise, foldRows, putWord, loopTo, X0, firstFree, ScratchOnly, Saved}
 
 -- ---- parts and tables
 
@@ -370,15 +370,38 @@ turned-done {n = n} {i = i} r h = let e : i ≡ n = omega (arith, r .upto) in rw
 -- ---- only the scratch vectors change
 
 pub scratch-refl : {a : Vecs} → ScratchOnly a a
-scratch-refl = record { low = λ q h. refl; high = λ q h. refl }
+scratch-refl = record { low = λ q h. refl; free = λ q h l. refl; high = λ q h. refl }
 
 pub scratch-trans : {a b c : Vecs} → ScratchOnly a b → ScratchOnly b c → ScratchOnly a c
-scratch-trans r s = record { low = λ q h. s .low q h ∙ r .low q h; high = λ q h. s .high q h ∙ r .high q h }
+scratch-trans r s = record {
+  low = λ q h. s .low q h ∙ r .low q h;
+  free = λ q h l. s .free q h l ∙ r .free q h l;
+  high = λ q h. s .high q h ∙ r .high q h;
+}
 
-pub scratch-upd : {a b : Vecs} (p : ℕ) (v : List Float) → 8 ≤ p → p < 16 → ScratchOnly a b → ScratchOnly a (upd b p v)
+pub scratch-upd : {a b : Vecs} (p : ℕ) (v : List Float) → 8 ≤ p → p < firstFree → ScratchOnly a b → ScratchOnly a (upd b p v)
 scratch-upd {b = b} p v l h r = record {
   low = λ q k. upd-other b p q v (λ e. omega arith) ∙ r .low q k;
+  free = λ q k m. upd-other b p q v (λ e. omega arith) ∙ r .free q k m;
   high = λ q k. upd-other b p q v (λ e. omega arith) ∙ r .high q k;
 }
+
+-- ---- the start and the free vectors stay
+
+pub saved-refl : {a : Vecs} → Saved a a
+saved-refl = record { x0 = refl; free = λ q h l. refl }
+
+pub saved-trans : {a b c : Vecs} → Saved a b → Saved b c → Saved a c
+saved-trans r s = record { x0 = s .x0 ∙ r .x0; free = λ q h l. s .free q h l ∙ r .free q h l }
+
+-- another vector is replaced
+pub saved-upd : {a b : Vecs} (p : ℕ) (v : List Float) → p < firstFree → (p ≡ X0 → ⊥) → Saved a b → Saved a (upd b p v)
+saved-upd {b = b} p v l n r = record {
+  x0 = upd-other b p X0 v (λ e. n (sym e)) ∙ r .x0;
+  free = λ q k m. upd-other b p q v (λ e. omega arith) ∙ r .free q k m;
+}
+
+pub saved-scratch : {a b : Vecs} → ScratchOnly a b → Saved a b
+saved-scratch r = record { x0 = r .low X0 (omega arith); free = r .free }
 
 pub ruleset laws = (row-more, row-done, row-stored, row-copied, made-more, made-done, changed-more, changed-done, looped-more, looped-done, fold-more, fold-done, turned-done, scratch-refl, scratch-upd, needs)

@@ -35,7 +35,15 @@ putWord s p i v = upd s p (set (s p) i v)
 abbrev pub wordsAt : List Float → ℕ → ℕ → ℕ → Float
 wordsAt a n i q = word a (q * n + i)
 
--- ---- the named vectors: 16 of them, then those of the pairs
+-- ---- the named vectors, then those of the pairs and the columns
+
+-- Vectors 0 to 7 and the pairs stay from call to call. The others of the first sixteen:
+--   8   Velocity, then Step, then Target      scratch
+--   9   Displacement                          scratch
+--   10  Active, then Cauchy                   scratch
+--   11  ProductD, then ProductZ               scratch
+--   12 to 15  free: no function writes them
+-- `area/src` says who writes and who reads last where two share a place.
 
 -- the point held and its gradient, the bounds, the start
 abbrev pub X : ℕ
@@ -75,25 +83,55 @@ Active = 10
 
 -- the Cauchy point and the target
 abbrev pub Cauchy : ℕ
-Cauchy = 11
+Cauchy = 10
 
 abbrev pub Target : ℕ
-Target = 12
+Target = 8
 
 -- two products with B, and the step over the free coordinates
 abbrev pub ProductD : ℕ
-ProductD = 13
+ProductD = 11
 
 abbrev pub ProductZ : ℕ
-ProductZ = 14
+ProductZ = 11
 
 abbrev pub Step : ℕ
-Step = 15
+Step = 8
 
--- every vector but the scratch ones, 8 to 15, is as it was
+-- the first vector behind the scratch ones: free, up to the pairs
+abbrev pub firstFree : ℕ
+firstFree = 12
+
+-- the first vector of the pairs
+abbrev pub firstPair : ℕ
+firstPair = 16
+
+-- s of the pair in place p of the ring; its y stands in the next vector
+abbrev pub placeSlot : ℕ → ℕ
+placeSlot p = firstPair + 2 * p
+
+-- behind the m pairs, the first of the 2 m columns
+abbrev pub firstColumn : ℕ → ℕ
+firstColumn m = firstPair + 2 * m
+
+-- how many vectors there are with m pairs
+abbrev pub vectors : ℕ → ℕ
+vectors m = firstPair + 4 * m
+
+-- the free vectors are as they were
+abbrev pub FreeKept : Vecs → Vecs → Type 0
+FreeKept a b = (q : ℕ) → firstFree ≤ q → q < firstPair → b q ≡ a q
+
+-- every vector but the scratch ones is as it was
 pub record ScratchOnly (a b : Vecs) : Type 0 where
   pub low : (q : ℕ) → q < 8 → b q ≡ a q
-  pub high : (q : ℕ) → 16 ≤ q → b q ≡ a q
+  pub free : FreeKept a b
+  pub high : (q : ℕ) → firstPair ≤ q → b q ≡ a q
+
+-- the start and the free vectors are as they were: no step writes them
+pub record Saved (a b : Vecs) : Type 0 where
+  pub x0 : b X0 ≡ a X0
+  pub free : FreeKept a b
 
 -- ---- loops over the index
 

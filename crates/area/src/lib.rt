@@ -8,6 +8,10 @@ ghost use Rattle.definition.specs.Vector.{dot as dotOf, allFinite};
 ghost use Rattle.definition.specs.Problem.{areaWords};
 ghost use Rattle.area.specs.Area.{view, upd, wordsAt, putWord, copyOf, fillOf, differenceOf};
 
+// Vectors 0 to 7, and those of the pairs from FIRST_PAIR on, stay from call to call. 8 to 11 are scratch: whoever reads one has
+// written it in the same call. 12 to 15 are free: no step, replay or opening writes them, so that they pass through every call
+// but one that zeroes the area whole. Behind the pairs stand the columns of W, laid out anew for each model.
+
 pub const X: usize = 0;
 
 pub const G: usize = 1;
@@ -24,21 +28,32 @@ pub const TRIAL_GRADIENT: usize = 6;
 
 pub const DIRECTION: usize = 7;
 
+// Vector 8. The path's direction is written by `cauchy::begin_path` and `cauchy::stop`, and read last by the segment that ends the
+// path. The step is written behind that, by `subspace::steps`; `subspace::moved` reads word i of it last and puts word i of the
+// target in its place, which `subspace::head` reads. (`measure::learn` puts the difference of the points here, for `compact::update`.)
 pub const VELOCITY: usize = 8;
 
+pub const STEP: usize = 8;
+
+pub const TARGET: usize = 8;
+
+// Vector 9. The path's displacement, and behind the path that of the Cauchy point. (`measure::learn`: the difference of the gradients.)
 pub const DISPLACEMENT: usize = 9;
 
+// Vector 10. The bounds met are written by `cauchy::begin_path` and `cauchy::stop`; `cauchy::put_point`, with which the path ends,
+// reads word i of them last and puts word i of the Cauchy point in its place, which `subspace` reads.
 pub const ACTIVE: usize = 10;
 
-pub const CAUCHY: usize = 11;
+pub const CAUCHY: usize = 10;
 
-pub const TARGET: usize = 12;
+// Vector 11. In a segment B times the direction is read last by the curvature, before B times the displacement is made, which the
+// slope reads. In `subspace::residual` word i of the residual is put in the place of word i of B times the displacement, read last there.
+pub const PRODUCT_D: usize = 11;
 
-pub const PRODUCT_D: usize = 13;
+pub const PRODUCT_Z: usize = 11;
 
-pub const PRODUCT_Z: usize = 14;
-
-pub const STEP: usize = 15;
+// The first vector of the pairs: s and y of the pair in place k stand at FIRST_PAIR + 2 k and behind it, and the columns behind them all.
+pub const FIRST_PAIR: usize = 16;
 
 // The words that n coordinates and m pairs need.
 pub fn words(n: usize, m: usize) -> usize

@@ -1,4 +1,4 @@
--- Break times in memory: the machine's value of one, and of an array of 64 that is also its elements side by side. Assumes nothing.
+-- Break times in memory: the machine's value of one, and of an array of `mostCoordinates` that is also its elements side by side. Assumes nothing.
 use mathlib.Core.Path.{_≡_, refl}
 use mathlib.Core.Bool.{Bool, true, false, not}
 use mathlib.Core.List.{List, [], _∷_}
@@ -20,6 +20,7 @@ use denote.Array.{Array, array-vals, array-tells}
 use denote.Steps.{only}
 use denote.Struct.Steps.{spelt}
 use denote.Struct.Laws as LL
+use Rattle.definition.specs.Problem.{mostCoordinates}
 use Rattle.cauchy.specs.declared.BreakTime.{BreakTime}
 use Rattle.cauchy.proofs.BreakTime as T
 use Rattle.cauchy.proofs.BreakTime.Laws as T′
@@ -43,13 +44,13 @@ abbrev pub vals : BreakTime → List Val
 vals = LL.vals T.the-type T′.the-laws
 
 abbrev pub R : RattleType
-R = Array T.the-row 64
+R = Array T.the-row mostCoordinates
 
 abbrev pub aval : List BreakTime → Val
 aval xs = only (array-vals vals xs)
 
 abbrev pub array : Ty
-array = tyArray T′.mir 64
+array = tyArray T′.mir mostCoordinates
 
 module _ {M : Type 1} (𝓤 : URA M) (H : Heap 𝓤) (A : Atoms 𝓤) (W : Given 𝓤 H A) where
   pub packs : (xs : List BreakTime) (l : ℕ) → ent 𝓤 (sep 𝓤 (sem 𝓤 H A (cellAt fullShare (R .mir) (aval xs ∷ []) l 0)) (sem 𝓤 H A (R .own xs (aval xs ∷ [])))) (sem 𝓤 H A (partAt R fullShare xs l 0))
@@ -58,4 +59,4 @@ module _ {M : Type 1} (𝓤 : URA M) (H : Heap 𝓤) (A : Atoms 𝓤) (W : Given
 
   pub unpacks : (xs : List BreakTime) (l : ℕ) → ent 𝓤 (sem 𝓤 H A (partAt R fullShare xs l 0)) (sem 𝓤 H A (fsep (cellAt fullShare (R .mir) (aval xs ∷ []) l 0) (R .own xs (aval xs ∷ []))))
   unfolding partOf
-  unpacks xs l = qed W (‵ (partAt R fullShare xs l 0) ∷ []) ∵ fpick ! (λ vs. fsplit ! $ spelt ! R (Is R) (shows 𝓤 H A R) (array-vals vals) (array-tells T.the-row vals (LL.tells T.the-type T′.the-laws) 64) fullShare xs vs l 0 $ fjoin ! $ done !)
+  unpacks xs l = qed W (‵ (partAt R fullShare xs l 0) ∷ []) ∵ fpick ! (λ vs. fsplit ! $ spelt ! R (Is R) (shows 𝓤 H A R) (array-vals vals) (array-tells T.the-row vals (LL.tells T.the-type T′.the-laws) mostCoordinates) fullShare xs vs l 0 $ fjoin ! $ done !)

@@ -14,7 +14,7 @@ use lib.Ieee.{Float}
 use lib.Ieee.Scale.{finite}
 use Rattle.definition.specs.Number.{totalKey, totalLe}
 use Rattle.definition.specs.Vector.{foldTo, word}
-use Rattle.definition.specs.Problem.{Bounds}
+use Rattle.definition.specs.Problem.{Bounds, mostCoordinates}
 use Rattle.definition.specs.Geometry.{Break, noBreak, inserted, breakTime, breaksOf}
 use Rattle.area.specs.Area.{Vecs, view, wordsAt, X, G}
 use Rattle.area.proofs.Laws.{word-view}
@@ -243,11 +243,11 @@ break-past b i h l = List·getD-eq-default (breakList b) noBreak (rw (breaks-len
 
 pub record Finding (n : ℕ) (v : Vecs) (i : ℕ) (b : Breaks) : Type 0 where
   pub upto : i ≤ n
-  pub long : length (b .list) ≡ 64
+  pub long : length (b .list) ≡ mostCoordinates
   pub count : b .count ≤ i
   pub is : breakList b ≡ breaksOf i (boundsOf v) (v X) (v G)
 
-pub finding-none : {n : ℕ} {v : Vecs} {b : Breaks} → length (b .list) ≡ 64 → b .count ≡ 0 → Finding n v 0 b
+pub finding-none : {n : ℕ} {v : Vecs} {b : Breaks} → length (b .list) ≡ mostCoordinates → b .count ≡ 0 → Finding n v 0 b
 unfolding breaksOf foldTo
 finding-none {b = b} l e = record { upto = omega arith; long = l; count = omega arith; is = rw e refl }
 
@@ -263,11 +263,11 @@ finding-more {n} a {i} {b} {t} {r} f h e k =
       is = k .is ∙ rw (add-one, q, f .is) (sym (breaks-more i (boundsOf v) (v X) (v G)));
     }
 
-pub finding-ordered : {n : ℕ} {v : Vecs} {i : ℕ} {b : Breaks} → Finding n v i b → i < n → n ≤ 64 → Ordered b
+pub finding-ordered : {n : ℕ} {v : Vecs} {i : ℕ} {b : Breaks} → Finding n v i b → i < n → n ≤ mostCoordinates → Ordered b
 finding-ordered {n} {v} {i} {b} f h l =
     record { long = f .long; room = omega (arith, f .count); rising = rw (f .is) (rising-found i (boundsOf v) (v X) (v G)) }
 
-pub finding-done : {n : ℕ} {v : Vecs} {i : ℕ} {b : Breaks} → Finding n v i b → n ≤ i → n ≤ 64 → Found n v b
+pub finding-done : {n : ℕ} {v : Vecs} {i : ℕ} {b : Breaks} → Finding n v i b → n ≤ i → n ≤ mostCoordinates → Found n v b
 finding-done {n} {v} {i} {b} f h l =
     let e : i ≡ n = omega (arith, f .upto) in
     let is : breakList b ≡ breaksOf n (boundsOf v) (v X) (v G) = rw e at (f .is) in

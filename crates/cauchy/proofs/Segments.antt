@@ -16,7 +16,7 @@ use Rattle.definition.specs.Problem.{Bounds}
 use Rattle.definition.specs.Compact as C
 use Rattle.definition.specs.Geometry as D
 use Rattle.definition.specs.Geometry.{Break, noBreak, pointOnPath, travelled, passed, along, bySlope, segment, walk, still, generalizedCauchy}
-use Rattle.area.specs.Area.{Vecs, upd, rowwise, given, ScratchOnly, X, G, Velocity, Displacement, Cauchy, ProductD, ProductZ}
+use Rattle.area.specs.Area.{Vecs, upd, rowwise, given, firstFree, ScratchOnly, X, G, Velocity, Displacement, Cauchy, ProductD, ProductZ}
 use Rattle.area.proofs.Laws.{scratch-refl, scratch-trans, scratch-upd}
 use Rattle.compact.specs.declared.Shape.{Shape}
 use Rattle.compact.specs.State.{compactOf, Multiplied}
@@ -140,7 +140,7 @@ earlier {h} {theta} {a} {ok} {b} r =
     ap (λ (u : Vecs). C.product (h .n) (compactOf h theta u) (u Displacement)) (r .frame)
     ∙ ap (λ (c : C.Compact). C.product (h .n) c (a Displacement)) (compact-upd h theta a ProductD (b ProductD) (omega arith))
 
-pub product-kept : {h : Shape} {theta : Float} {q : ℕ} {a : Vecs} {ok : Bool} {b : Vecs} (k : ℕ) → Multiplied h theta k q a ok b → 8 ≤ k → k < 16 → ScratchOnly a b
+pub product-kept : {h : Shape} {theta : Float} {q : ℕ} {a : Vecs} {ok : Bool} {b : Vecs} (k : ℕ) → Multiplied h theta k q a ok b → 8 ≤ k → k < firstFree → ScratchOnly a b
 product-kept k r l m = rw (r .frame) (scratch-upd k _ l m scratch-refl)
 
 module _ (h : Shape) (theta : Float) (b : Breaks) (p : Path) {v : Vecs} {s : Bool} (at : s ≡ still (h .n) (v Velocity)) where
@@ -169,14 +169,22 @@ module _ (h : Shape) (theta : Float) (b : Breaks) (p : Path) {v : Vecs} {s : Boo
       }
 
       pub segment-goes : {slope curvature : Float} {r : Segment} {w : Vecs} → not ok₂ ≡ false
-          → slope ≡ plus (dot (h .n) (v₂ G) (v₂ Velocity)) (dot (h .n) (v₂ ProductZ) (v₂ Velocity)) → curvature ≡ dot (h .n) (v₂ Velocity) (v₂ ProductD)
+          → slope ≡ plus (dot (h .n) (v₂ G) (v₂ Velocity)) (dot (h .n) (v₂ ProductZ) (v₂ Velocity)) → curvature ≡ dot (h .n) (v₁ Velocity) (v₁ ProductD)
           → Segments (bySlope (h .n) (boundsOf v₂) (v₂ X) (breakList b) (pathOf p v₂) slope curvature) v₂ r w → Segments (segmentAt h theta b p v) v r w
       segment-goes e f g q =
-          let frame : v₂ ≡ upd (upd v ProductD (v₁ ProductD)) ProductZ (v₂ ProductZ) = second .frame ∙ ap (λ (u : Vecs). upd u ProductZ (v₂ ProductZ)) (first .frame) in
+          let bd = v₁ ProductD in
+          let bz = v₂ ProductZ in
+          let n = h .n in
+          let bs = breakList b in
+          let frame : v₂ ≡ upd (upd v ProductD bd) ProductZ bz = second .frame ∙ ap (λ (u : Vecs). upd u ProductZ bz) (first .frame) in
+          let along : v₁ Velocity ≡ v Velocity = λ i. first .frame i Velocity in
+          let slopeAt : Vecs → Float = λ (u : Vecs). plus (dot n (u G) (u Velocity)) (dot n (u ProductZ) (u Velocity)) in
+          let slopeV : Float = plus (dot n (v G) (v Velocity)) (dot n bz (v Velocity)) in
           record {
             is = q .is ∙ rw (f, g)
-                (ap (λ (u : Vecs). bySlope (h .n) (boundsOf u) (u X) (breakList b) (pathOf p u) (plus (dot (h .n) (u G) (u Velocity)) (dot (h .n) (u ProductZ) (u Velocity))) (dot (h .n) (u Velocity) (u ProductD))) frame)
-                ∙ sym (segment-slope (h .n) (boundsOf v) (compactOf h theta v) (v X) (v G) (breakList b) (pathOf p v) (v₁ ProductD) (v₂ ProductZ) (sym at ∙ moves)
+                (ap (λ (u : Vecs). bySlope n (boundsOf u) (u X) bs (pathOf p u) (slopeAt u) (dot n (v₁ Velocity) bd)) frame)
+                ∙ ap (λ (d : List Float). bySlope n (boundsOf v) (v X) bs (pathOf p v) slopeV (dot n d bd)) along
+                ∙ sym (segment-slope n (boundsOf v) (compactOf h theta v) (v X) (v G) bs (pathOf p v) bd bz (sym at ∙ moves)
                 (made first (not-false ok₁ good)) (sym (earlier first) ∙ made second (not-false ok₂ e)));
             kept = scratch-trans both-kept (q .kept);
           }

@@ -9,7 +9,7 @@ use lib.Ieee as Ieee
 use lib.Ieee.{Float, nan}
 use lib.Ieee.Scale.{finite}
 use Rattle.definition.specs.Number.{totalKey, totalLe, plus, minus, times, over, clamp, zero64, infinity}
-use Rattle.definition.specs.Problem.{Bounds}
+use Rattle.definition.specs.Problem.{Bounds, mostCoordinates}
 use Rattle.definition.specs.Geometry as D
 use Rattle.area.specs.Area.{Vecs, rowwise, given, ScratchOnly, X, G, Lower, Upper, Velocity, Displacement, Active, Cauchy}
 use Rattle.cauchy.specs.declared.BreakTime.{BreakTime}
@@ -52,25 +52,25 @@ Within n b = (k : ℕ) → k < b .count → getD (b .list) k noBreakTime .coordi
 
 -- breaks of n coordinates
 pub record Listed (n : ℕ) (b : Breaks) : Type 0 where
-  pub long : length (b .list) ≡ 64
-  pub few : b .count ≤ 64
+  pub long : length (b .list) ≡ mostCoordinates
+  pub few : b .count ≤ mostCoordinates
   pub within : Within n b
 
 -- breaks in order, with room for one more
 pub record Ordered (b : Breaks) : Type 0 where
-  pub long : length (b .list) ≡ 64
-  pub room : b .count < 64
+  pub long : length (b .list) ≡ mostCoordinates
+  pub room : b .count < mostCoordinates
   pub rising : Rising 0 (breakList b)
 
 -- r is b with t in its place
 pub record Inserted (b : Breaks) (t : BreakTime) (r : Breaks) : Type 0 where
-  pub long : length (r .list) ≡ 64
+  pub long : length (r .list) ≡ mostCoordinates
   pub count : r .count ≡ b .count + 1
   pub is : breakList r ≡ D.inserted (breakOf t) (breakList b)
 
 -- r is b, and coordinate i with its time t where that is finite
 pub record Kept (b : Breaks) (t : Float) (i : ℕ) (r : Breaks) : Type 0 where
-  pub long : length (r .list) ≡ 64
+  pub long : length (r .list) ≡ mostCoordinates
   pub count : r .count ≤ b .count + 1
   pub is : breakList r ≡ cond (finite t) (D.inserted (record { time = t; coordinate = i }) (breakList b)) (breakList b)
 

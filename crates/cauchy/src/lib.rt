@@ -6,9 +6,10 @@ ghost use lib.ListN.{length, getD};
 ghost use lib.Ieee as Ieee;
 ghost use Rattle.definition.specs.Number.{plus, totalLe, zero64};
 ghost use Rattle.definition.specs.Vector.{dot as dotOf};
+ghost use Rattle.definition.specs.Problem.{mostCoordinates};
 ghost use Rattle.definition.specs.Geometry.{noBreak, stopped, stopAll, passed, generalizedCauchy};
 ghost use Rattle.definition.specs.Geometry.{along as alongOf, bySlope, still as stillOf, segment as segmentOf};
-ghost use Rattle.area.specs.Area.{view, wordsAt, rowwise, X, G, Velocity, ProductZ, Cauchy};
+ghost use Rattle.area.specs.Area.{view, wordsAt, rowwise, firstPair, X, G, Velocity, ProductZ, Cauchy};
 ghost use Rattle.compact.specs.State.{Sound, Prepared, compactOf};
 ghost use Rattle.cauchy.specs.State.{boundsOf, noBreakTime, sift, breakList, Listed, Ordered, Inserted, Kept, Found};
 ghost use Rattle.cauchy.specs.State.{movesUpIn, movesDownIn, velocityIn, breakTimeIn, boundIn, pointIn, pathOf, travelledOf, Travels, Begins, Points, PathPoint, Segments};
@@ -21,7 +22,7 @@ pub struct BreakTime {
 
 // The finite break times, in order, in the first `count` places.
 pub struct Breaks {
-    pub list: [BreakTime; 64],
+    pub list: [BreakTime; problem::MOST_COORDINATES],
     pub count: usize,
 }
 
@@ -41,7 +42,7 @@ pub enum Segment {
 
 // Whether coordinate i moves up, towards an upper bound that it is below.
 fn moves_up(area: &[f64], n: usize, i: usize) -> bool
-    requires { ⌜ (16 * n ≤ length (now area)) × (i < n) ⌝ }
+    requires { ⌜ (firstPair * n ≤ length (now area)) × (i < n) ⌝ }
     ensures { λ r. ⌜ r ≡ movesUpIn (wordsAt (now (area .entry)) n i) ⌝ }
 {
     if 0.0 < -area[area::G * n + i] {
@@ -52,7 +53,7 @@ fn moves_up(area: &[f64], n: usize, i: usize) -> bool
 
 // Whether coordinate i moves down, towards a lower bound that it is above.
 fn moves_down(area: &[f64], n: usize, i: usize) -> bool
-    requires { ⌜ (16 * n ≤ length (now area)) × (i < n) ⌝ }
+    requires { ⌜ (firstPair * n ≤ length (now area)) × (i < n) ⌝ }
     ensures { λ r. ⌜ r ≡ movesDownIn (wordsAt (now (area .entry)) n i) ⌝ }
 {
     if -area[area::G * n + i] < 0.0 {
@@ -63,7 +64,7 @@ fn moves_down(area: &[f64], n: usize, i: usize) -> bool
 
 // The path's direction at coordinate i.
 fn velocity_at(area: &[f64], n: usize, i: usize) -> f64
-    requires { ⌜ (16 * n ≤ length (now area)) × (i < n) ⌝ }
+    requires { ⌜ (firstPair * n ≤ length (now area)) × (i < n) ⌝ }
     ensures { λ r. ⌜ r ≡ velocityIn (wordsAt (now (area .entry)) n i) ⌝ }
 {
     if moves_up(area, n, i) {
@@ -77,7 +78,7 @@ fn velocity_at(area: &[f64], n: usize, i: usize) -> f64
 
 // When coordinate i meets its bound: infinity where it does not move.
 fn break_time(area: &[f64], n: usize, i: usize) -> f64
-    requires { ⌜ (16 * n ≤ length (now area)) × (i < n) ⌝ }
+    requires { ⌜ (firstPair * n ≤ length (now area)) × (i < n) ⌝ }
     ensures { λ r. ⌜ r ≡ breakTimeIn (wordsAt (now (area .entry)) n i) ⌝ }
 {
     let g = area[area::G * n + i];
@@ -125,8 +126,12 @@ fn break_at(b: &[BreakTime], i: usize) -> BreakTime
 }
 
 // The insertion by value: it makes the reference, so that its callers need none.
-fn inserted(list: [BreakTime; 64], n: usize, t: BreakTime) -> [BreakTime; 64]
-    requires { ⌜ n < 64 ⌝ }
+fn inserted(
+    list: [BreakTime; problem::MOST_COORDINATES],
+    n: usize,
+    t: BreakTime,
+) -> [BreakTime; problem::MOST_COORDINATES]
+    requires { ⌜ n < mostCoordinates ⌝ }
     ensures { λ r. ⌜ r ≡ sift n list t ⌝ }
 {
     let mut b = list;
@@ -135,8 +140,8 @@ fn inserted(list: [BreakTime; 64], n: usize, t: BreakTime) -> [BreakTime; 64]
 }
 
 // The reading by value.
-fn entry(list: [BreakTime; 64], i: usize) -> BreakTime
-    requires { ⌜ i < 64 ⌝ }
+fn entry(list: [BreakTime; problem::MOST_COORDINATES], i: usize) -> BreakTime
+    requires { ⌜ i < mostCoordinates ⌝ }
     ensures { λ r. ⌜ r ≡ getD list i noBreakTime ⌝ }
 {
     let b = list;
@@ -173,23 +178,23 @@ fn with_time(b: Breaks, t: f64, i: usize) -> Breaks
     b
 }
 
-// Sixty-four places, of which none is used.
+// A place for each coordinate that there may be, of which none is used.
 fn no_breaks() -> Breaks
-    ensures { λ r. ⌜ (length (r .list) ≡ 64) × (r .count ≡ 0) ⌝ }
+    ensures { λ r. ⌜ (length (r .list) ≡ mostCoordinates) × (r .count ≡ 0) ⌝ }
 {
     let none = BreakTime {
         time: 0.0,
         coordinate: 0,
     };
     Breaks {
-        list: [none; 64],
+        list: [none; problem::MOST_COORDINATES],
         count: 0,
     }
 }
 
 // The finite break times of all coordinates.
 fn find_breaks(area: &[f64], n: usize) -> Breaks
-    requires { ⌜ (16 * n ≤ length (now area)) × (n ≤ 64) ⌝ }
+    requires { ⌜ (firstPair * n ≤ length (now area)) × (n ≤ mostCoordinates) ⌝ }
     ensures { λ r. ⌜ Found n (view (now (area .entry)) n) r ⌝ }
 {
     let mut b = no_breaks();
@@ -203,7 +208,7 @@ fn find_breaks(area: &[f64], n: usize) -> Breaks
 
 // The time of the next break: infinity past the last.
 fn next_time(b: Breaks, event: usize) -> f64
-    requires { ⌜ (length (b .list) ≡ 64) × (b .count ≤ 64) ⌝ }
+    requires { ⌜ (length (b .list) ≡ mostCoordinates) × (b .count ≤ mostCoordinates) ⌝ }
     ensures { λ r. ⌜ r ≡ getD (breakList b) event noBreak .time ⌝ }
 {
     if event < b.count {
@@ -225,7 +230,7 @@ fn no_bound() -> f64
 
 // Every coordinate takes its direction.
 fn set_off(area: &mut [f64], n: usize)
-    requires { ⌜ 16 * n ≤ length (now area) ⌝ }
+    requires { ⌜ firstPair * n ≤ length (now area) ⌝ }
     ensures { λ _. ⌜ view (now (area .exit)) n ≡ rowwise n Velocity (λ i w. velocityIn w) (view (now (area .entry)) n) ⌝ }
 {
     let to = area::VELOCITY * n;
@@ -238,7 +243,7 @@ fn set_off(area: &mut [f64], n: usize)
 
 // The path before its first segment.
 fn begin_path(area: &mut [f64], n: usize) -> Path
-    requires { ⌜ 16 * n ≤ length (now area) ⌝ }
+    requires { ⌜ firstPair * n ≤ length (now area) ⌝ }
     ensures { λ r. ⌜ Begins n (view (now (area .entry)) n) r (view (now (area .exit)) n) ⌝ }
 {
     set_off(area, n);
@@ -252,7 +257,7 @@ fn begin_path(area: &mut [f64], n: usize) -> Path
 
 // The displacement after a time t more.
 fn travel(area: &mut [f64], n: usize, t: f64)
-    requires { ⌜ 16 * n ≤ length (now area) ⌝ }
+    requires { ⌜ firstPair * n ≤ length (now area) ⌝ }
     ensures { λ _. ⌜ view (now (area .exit)) n ≡ travelledOf n t (view (now (area .entry)) n) ⌝ }
 {
     let to = area::DISPLACEMENT * n;
@@ -266,7 +271,7 @@ fn travel(area: &mut [f64], n: usize, t: f64)
 
 // The bound that coordinate i moves to.
 fn bound_met(area: &[f64], n: usize, i: usize) -> f64
-    requires { ⌜ (16 * n ≤ length (now area)) × (i < n) ⌝ }
+    requires { ⌜ (firstPair * n ≤ length (now area)) × (i < n) ⌝ }
     ensures { λ r. ⌜ r ≡ boundIn (wordsAt (now (area .entry)) n i) ⌝ }
 {
     if 0.0 < area[area::VELOCITY * n + i] {
@@ -277,7 +282,7 @@ fn bound_met(area: &[f64], n: usize, i: usize) -> f64
 
 // Coordinate i stops at its bound.
 fn stop(area: &mut [f64], n: usize, i: usize, p: Path) -> Path
-    requires { ⌜ (16 * n ≤ length (now area)) × (i < n) × (p .event < 64) ⌝ }
+    requires { ⌜ (firstPair * n ≤ length (now area)) × (i < n) × (p .event < mostCoordinates) ⌝ }
     ensures { λ r. ⌜ (let v = view (now (area .entry)) n in Travels (stopped (boundsOf v) (v X) i) p v r (view (now (area .exit)) n)) ⌝ }
 {
     let bound = bound_met(area, n, i);
@@ -293,7 +298,7 @@ fn stop(area: &mut [f64], n: usize, i: usize, p: Path) -> Path
 
 // Every break at the time t stops its coordinate.
 fn stop_all(area: &mut [f64], n: usize, b: Breaks, t: f64, p: Path) -> Path
-    requires { ⌜ (16 * n ≤ length (now area)) × Listed n b ⌝ }
+    requires { ⌜ (firstPair * n ≤ length (now area)) × Listed n b ⌝ }
     ensures { λ r. ⌜ (let v = view (now (area .entry)) n in Travels (stopAll (b .count - p .event) (boundsOf v) (v X) (breakList b) t) p v r (view (now (area .exit)) n)) ⌝ }
 {
     let list = b.list;
@@ -311,7 +316,7 @@ fn stop_all(area: &mut [f64], n: usize, b: Breaks, t: f64, p: Path) -> Path
 
 // Past the segment that ends at t.
 fn pass(area: &mut [f64], n: usize, b: Breaks, t: f64, p: Path) -> Path
-    requires { ⌜ (16 * n ≤ length (now area)) × Listed n b ⌝ }
+    requires { ⌜ (firstPair * n ≤ length (now area)) × Listed n b ⌝ }
     ensures { λ r. ⌜ (let v = view (now (area .entry)) n in Travels (passed n (boundsOf v) (v X) (breakList b) t) p v r (view (now (area .exit)) n)) ⌝ }
 {
     travel(area, n, t - p.previous);
@@ -324,7 +329,7 @@ fn pass(area: &mut [f64], n: usize, b: Breaks, t: f64, p: Path) -> Path
 
 // The point at coordinate i: a bound that was met stands exactly.
 fn point_at(area: &[f64], n: usize, i: usize) -> f64
-    requires { ⌜ (16 * n ≤ length (now area)) × (i < n) ⌝ }
+    requires { ⌜ (firstPair * n ≤ length (now area)) × (i < n) ⌝ }
     ensures { λ r. ⌜ r ≡ pointIn (wordsAt (now (area .entry)) n i) ⌝ }
 {
     let bound = area[area::ACTIVE * n + i];
@@ -337,7 +342,7 @@ fn point_at(area: &[f64], n: usize, i: usize) -> f64
 
 // The point of every coordinate.
 fn put_point(area: &mut [f64], n: usize)
-    requires { ⌜ 16 * n ≤ length (now area) ⌝ }
+    requires { ⌜ firstPair * n ≤ length (now area) ⌝ }
     ensures { λ _. ⌜ view (now (area .exit)) n ≡ rowwise n Cauchy (λ i w. pointIn w) (view (now (area .entry)) n) ⌝ }
 {
     let to = area::CAUCHY * n;
@@ -350,7 +355,7 @@ fn put_point(area: &mut [f64], n: usize)
 
 // `point_on_path`, if it is finite.
 fn point_on_path(area: &mut [f64], n: usize) -> bool
-    requires { ⌜ 16 * n ≤ length (now area) ⌝ }
+    requires { ⌜ firstPair * n ≤ length (now area) ⌝ }
     ensures { λ r. ⌜ PathPoint n (view (now (area .entry)) n) r (view (now (area .exit)) n) ⌝ }
 {
     put_point(area, n);
@@ -368,7 +373,7 @@ fn both_zero(ok: bool, x: f64) -> bool
 
 // Whether no coordinate moves.
 fn still(area: &[f64], n: usize) -> bool
-    requires { ⌜ 16 * n ≤ length (now area) ⌝ }
+    requires { ⌜ firstPair * n ≤ length (now area) ⌝ }
     ensures { λ r. ⌜ r ≡ stillOf n (view (now (area .entry)) n Velocity) ⌝ }
 {
     let at = area::VELOCITY * n;
@@ -383,7 +388,7 @@ fn still(area: &[f64], n: usize) -> bool
 
 // With a slope below zero and a curvature above: a minimum inside the segment, or on to its end.
 fn along(area: &mut [f64], n: usize, b: Breaks, p: Path, next: f64, minimizer: f64) -> Segment
-    requires { ⌜ (16 * n ≤ length (now area)) × Listed n b ⌝ }
+    requires { ⌜ (firstPair * n ≤ length (now area)) × Listed n b ⌝ }
     ensures { λ r. ⌜ (let v = view (now (area .entry)) n in Segments (alongOf n (boundsOf v) (v X) (breakList b) (pathOf p v) next minimizer) v r (view (now (area .exit)) n)) ⌝ }
 {
     if !float::is_finite(minimizer) {
@@ -398,7 +403,7 @@ fn along(area: &mut [f64], n: usize, b: Breaks, p: Path, next: f64, minimizer: f
 
 // The curvature must lie above zero; a slope that does not fall ends the path.
 fn by_slope(area: &mut [f64], n: usize, b: Breaks, p: Path, slope: f64, curvature: f64) -> Segment
-    requires { ⌜ (16 * n ≤ length (now area)) × Listed n b ⌝ }
+    requires { ⌜ (firstPair * n ≤ length (now area)) × Listed n b ⌝ }
     ensures { λ r. ⌜ (let v = view (now (area .entry)) n in Segments (bySlope n (boundsOf v) (v X) (breakList b) (pathOf p v) slope curvature) v r (view (now (area .exit)) n)) ⌝ }
 {
     if !float::is_finite(slope) {
@@ -419,7 +424,7 @@ fn by_slope(area: &mut [f64], n: usize, b: Breaks, p: Path, slope: f64, curvatur
 
 // The slope along the path, with B z in its vector.
 fn slope(area: &[f64], n: usize) -> f64
-    requires { ⌜ 16 * n ≤ length (now area) ⌝ }
+    requires { ⌜ firstPair * n ≤ length (now area) ⌝ }
     ensures { λ r. ⌜ (let v = view (now (area .entry)) n in r ≡ plus (dotOf n (v G) (v Velocity)) (dotOf n (v ProductZ) (v Velocity))) ⌝ }
 {
     let first = area::dot(area, n, area::G, area::VELOCITY);
@@ -458,6 +463,7 @@ fn segment_from(
     ) {
         return Segment::Ended(false);
     }
+    let curvature = area::dot(area, h.n, area::VELOCITY, area::PRODUCT_D);
     if !compact::product(
         area,
         h,
@@ -472,7 +478,6 @@ fn segment_from(
         return Segment::Ended(false);
     }
     let s = slope(area, h.n);
-    let curvature = area::dot(area, h.n, area::VELOCITY, area::PRODUCT_D);
     by_slope(area, h.n, b, p, s, curvature)
 }
 
@@ -486,7 +491,7 @@ pub fn generalized_cauchy(
     multipliers: &[[f64; 32]; 32],
     order: &[usize; 32],
 ) -> bool
-    requires { ⌜ Sound h (length (now area)) × Prepared h theta found (now rows) (now multipliers) (now order) (view (now area) (h .n)) × (h .n ≤ 64) ⌝ }
+    requires { ⌜ Sound h (length (now area)) × Prepared h theta found (now rows) (now multipliers) (now order) (view (now area) (h .n)) × (h .n ≤ mostCoordinates) ⌝ }
     ensures { λ r. ⌜ (let v = view (now (area .entry)) (h .n) in Points (generalizedCauchy (h .n) (boundsOf v) (compactOf h theta v) (v X) (v G)) v r (view (now (area .exit)) (h .n))) ⌝ }
 {
     let b = find_breaks(area, h.n);

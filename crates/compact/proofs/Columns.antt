@@ -14,7 +14,7 @@ use Rattle.definition.specs.Number.{plus, minus, times, negZero}
 use Rattle.definition.specs.Vector.{tab, word, foldTo, dot, allFinite, finiteOnly}
 use Rattle.definition.specs.Solve.{Matrix, solve}
 use Rattle.definition.specs.Compact.{Compact, pairOf, columnWord, columnDot, zeroRow, block, rightSide, weights, lessWord, product}
-use Rattle.area.specs.Area.{Vecs, upd, copyOf, view, rowwise, given}
+use Rattle.area.specs.Area.{Vecs, upd, copyOf, view, rowwise, given, firstPair}
 use Rattle.area.proofs.Laws.{length-view, upd-other}
 use Rattle.solve.specs.Factors.{solvedWith}
 use Rattle.solve.proofs.Steps.{factors-solve}
@@ -113,7 +113,7 @@ pub lessened-none : {h : Shape} {z : List Float} {p : ℕ} {a : Vecs} → length
 unfolding foldTo
 lessened-none {h} {z} {p} {a} l = record { upto = omega arith; is = upd-none a p (tab (h .n) (word (a p))) (sym (tab-word (h .n) (a p) l)) }
 
-pub lessened-more : {h : Shape} {z : List Float} {p k : ℕ} {a b d : Vecs} → Lessened h z p a b k → p < 16 → k < 2 * h .pairs
+pub lessened-more : {h : Shape} {z : List Float} {p k : ℕ} {a b d : Vecs} → Lessened h z p a b k → p < firstPair → k < 2 * h .pairs
     → d ≡ rowwise (h .n) p (λ (i : ℕ) v. minus (v p) (times (word z k) (v (columnSlot h k)))) b → Lessened h z p a d (k + 1)
 unfolding rowwise foldTo
 lessened-more {h} {z} {p} {k} {a} {b} {d} r g l e =
@@ -131,7 +131,7 @@ lessened-more {h} {z} {p} {k} {a} {b} {d} r g l e =
           (λ i m. rw add-one (ap (λ (y : Float). minus y (times (word z k) (word (a (columnSlot h k)) i))) (tab-get (h .n) (lessOf h z p a k) i nan m))));
     }
 
-pub lessened-done : {h : Shape} {theta : Float} {z : List Float} {p k : ℕ} {o a b : Vecs} (q : ℕ) → Laid h theta o → p < 16
+pub lessened-done : {h : Shape} {theta : Float} {z : List Float} {p k : ℕ} {o a b : Vecs} (q : ℕ) → Laid h theta o → p < firstPair
     → a ≡ rowwise (h .n) p (λ (i : ℕ) v. times theta (v q)) o → Lessened h z p a b k → 2 * h .pairs ≤ k
     → b ≡ upd o p (tab (h .n) (lessTo (compactOf h theta o) z (o q) (2 * h .pairs)))
 unfolding rowwise

@@ -1,4 +1,4 @@
--- What later crates need of a model: it stays while the vectors from 16 on stay, and its entries. Assumes nothing.
+-- What later crates need of a model: it stays while the vectors from the pairs on stay, and its entries. Assumes nothing.
 use mathlib.Core.Path.{_≡_, refl, sym, ap, subst, _∙_}
 use mathlib.Core.Bool.{Bool}
 use mathlib.Core.List.{List, []}
@@ -9,18 +9,18 @@ use Rattle.definition.specs.Number.{zero64}
 use Rattle.definition.specs.Vector.{tab, word}
 use Rattle.definition.specs.Solve.{Matrix, entry}
 use Rattle.definition.specs.Compact as C
-use Rattle.area.specs.Area.{Vecs, upd, ScratchOnly}
+use Rattle.area.specs.Area.{Vecs, upd, firstFree, firstPair, ScratchOnly}
 use Rattle.area.proofs.Laws.{upd-other}
 use Rattle.solve.specs.Factors.{Factored}
 use Rattle.compact.specs.declared.Shape.{Shape}
 use Rattle.compact.specs.State.{pairSlot, columnSlot, pairAt, pairsOf, compactOf, Sound, Laid, PairsKept, Modelled, Prepared, Multiplied}
 use Rattle.compact.proofs.Laws.{tab-same, pairs-count, padded-get, place-below}
 
--- every vector from 16 on is as it was
+-- every vector from the pairs on is as it was
 abbrev pub HighKept : Vecs → Vecs → Type 0
-HighKept a b = (q : ℕ) → 16 ≤ q → b q ≡ a q
+HighKept a b = (q : ℕ) → firstPair ≤ q → b q ≡ a q
 
-pub high-upd : (a : Vecs) (p : ℕ) (v : List Float) → p < 16 → HighKept a (upd a p v)
+pub high-upd : (a : Vecs) (p : ℕ) (v : List Float) → p < firstPair → HighKept a (upd a p v)
 high-upd a p v l = λ q k. upd-other a p q v (λ e. omega arith)
 
 pub pairs-kept : (h : Shape) (a b : Vecs) → HighKept a b → pairsOf h b ≡ pairsOf h a
@@ -68,22 +68,24 @@ compact-laid {h} theta a b s k =
     λ i. record { s = k (pairSlot h j) (omega arith) i; y = k (pairSlot h j + 1) (omega arith) i }))
 
 -- one of the first sixteen vectors replaced
-pub pairs-upd : (h : Shape) (a : Vecs) (p : ℕ) (v : List Float) → p < 16 → pairsOf h (upd a p v) ≡ pairsOf h a
+pub pairs-upd : (h : Shape) (a : Vecs) (p : ℕ) (v : List Float) → p < firstPair → pairsOf h (upd a p v) ≡ pairsOf h a
 pairs-upd h a p v l = pairs-kept h a (upd a p v) (high-upd a p v l)
 
-pub compact-upd : (h : Shape) (theta : Float) (a : Vecs) (p : ℕ) (v : List Float) → p < 16 → compactOf h theta (upd a p v) ≡ compactOf h theta a
+pub compact-upd : (h : Shape) (theta : Float) (a : Vecs) (p : ℕ) (v : List Float) → p < firstPair → compactOf h theta (upd a p v) ≡ compactOf h theta a
 compact-upd h theta a p v l = compact-kept h theta a (upd a p v) (high-upd a p v l)
 
-pub prepared-upd : {h : Shape} {theta : Float} {ok : Bool} {t f : Matrix} {o : List ℕ} {a : Vecs} (p : ℕ) (v : List Float) → p < 16
+pub prepared-upd : {h : Shape} {theta : Float} {ok : Bool} {t f : Matrix} {o : List ℕ} {a : Vecs} (p : ℕ) (v : List Float) → p < firstPair
     → Prepared h theta ok t f o a → Prepared h theta ok t f o (upd a p v)
 prepared-upd {a = a} p v l r = prepared-kept (upd a p v) (high-upd a p v l) r
 
 -- after a product into one of the first sixteen
-pub multiplied-high : {h : Shape} {theta : Float} {p q : ℕ} {a b : Vecs} {ok : Bool} → p < 16 → Multiplied h theta p q a ok b → HighKept a b
+pub multiplied-high : {h : Shape} {theta : Float} {p q : ℕ} {a b : Vecs} {ok : Bool} → p < firstPair → Multiplied h theta p q a ok b → HighKept a b
 multiplied-high {p = p} {a = a} {b = b} l r = λ j k. (λ i. r .frame i j) ∙ upd-other a p j (b p) (λ e. omega arith)
 
-pub multiplied-scratch : {h : Shape} {theta : Float} {p q : ℕ} {a b : Vecs} {ok : Bool} → 8 ≤ p → p < 16 → Multiplied h theta p q a ok b → ScratchOnly a b
-multiplied-scratch {p = p} {a = a} {b = b} g l r = record { low = λ j k. (λ i. r .frame i j) ∙ upd-other a p j (b p) (λ e. omega arith); high = multiplied-high l r }
+pub multiplied-scratch : {h : Shape} {theta : Float} {p q : ℕ} {a b : Vecs} {ok : Bool} → 8 ≤ p → p < firstFree → Multiplied h theta p q a ok b → ScratchOnly a b
+multiplied-scratch {p = p} {a = a} {b = b} g l r =
+    let other : (j : ℕ) → (j ≡ p → ⊥) → b j ≡ a j = λ j n. (λ i. r .frame i j) ∙ upd-other a p j (b p) n in
+    record { low = λ j k. other j (λ e. omega arith); free = λ j k m. other j (λ e. omega arith); high = multiplied-high (omega (arith, l)) r }
 
 -- ---- entries
 

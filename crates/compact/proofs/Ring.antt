@@ -12,7 +12,7 @@ use Rattle.definition.specs.Number.{over}
 use Rattle.definition.specs.Vector.{tab, dot}
 use Rattle.definition.specs.Compact as C
 use Rattle.definition.specs.Compact.{Pair, wrap, makeRoom}
-use Rattle.area.specs.Area.{Vecs, upd, copyOf, Velocity, Displacement}
+use Rattle.area.specs.Area.{Vecs, upd, copyOf, Velocity, Displacement, firstPair, placeSlot}
 use Rattle.area.proofs.Laws.{upd-other}
 use Rattle.compact.specs.declared.Shape.{Shape}
 use Rattle.compact.specs.State.{pairAt, pairsOf, compactOf, Sound, pushedShape, Pushed, Updated}
@@ -44,28 +44,28 @@ next-place m o k h l =
 -- ---- a pair put at place b
 
 abbrev pairPut : Vecs → ℕ → List Float → List Float → Vecs
-pairPut v b s y = upd (upd v (16 + 2 * b) s) (16 + 2 * b + 1) y
+pairPut v b s y = upd (upd v (placeSlot b) s) (placeSlot b + 1) y
 
 abbrev pairIn : Vecs → ℕ → Pair
-pairIn v a = record { s = v (16 + 2 * a); y = v (16 + 2 * a + 1) }
+pairIn v a = record { s = v (placeSlot a); y = v (placeSlot a + 1) }
 
 put-other : (v : Vecs) (a b : ℕ) (s y : List Float) → (a ≡ b → ⊥) → pairIn (pairPut v b s y) a ≡ pairIn v a
 put-other v a b s y h =
-    let n1 = ne-eqb (16 + 2 * a) (16 + 2 * b) (λ e. h (omega arith)) in
-    let n2 = ne-eqb (16 + 2 * a) (16 + 2 * b + 1) (λ e. omega arith) in
-    let n3 = ne-eqb (16 + 2 * a + 1) (16 + 2 * b) (λ e. omega arith) in
-    let n4 = ne-eqb (16 + 2 * a + 1) (16 + 2 * b + 1) (λ e. h (omega arith)) in
+    let n1 = ne-eqb (placeSlot a) (placeSlot b) (λ e. h (omega arith)) in
+    let n2 = ne-eqb (placeSlot a) (placeSlot b + 1) (λ e. omega arith) in
+    let n3 = ne-eqb (placeSlot a + 1) (placeSlot b) (λ e. omega arith) in
+    let n4 = ne-eqb (placeSlot a + 1) (placeSlot b + 1) (λ e. h (omega arith)) in
     simp (n1, n2, n3, n4)
 
 put-same : (v : Vecs) (b : ℕ) (s y : List Float) → pairIn (pairPut v b s y) b ≡ record { s = s; y = y }
 put-same v b s y =
-    let n1 = eq-eqb (16 + 2 * b) (16 + 2 * b) refl in
-    let n2 = ne-eqb (16 + 2 * b) (16 + 2 * b + 1) (λ e. omega arith) in
-    let n4 = eq-eqb (16 + 2 * b + 1) (16 + 2 * b + 1) refl in
+    let n1 = eq-eqb (placeSlot b) (placeSlot b) refl in
+    let n2 = ne-eqb (placeSlot b) (placeSlot b + 1) (λ e. omega arith) in
+    let n4 = eq-eqb (placeSlot b + 1) (placeSlot b + 1) refl in
     simp (n1, n2, n4)
 
-low-put : (v : Vecs) (b p : ℕ) (s y : List Float) → p < 16 → pairPut v b s y p ≡ v p
-low-put v b p s y h = rw (ne-eqb p (16 + 2 * b + 1) (λ e. omega arith), ne-eqb p (16 + 2 * b) (λ e. omega arith))
+low-put : (v : Vecs) (b p : ℕ) (s y : List Float) → p < firstPair → pairPut v b s y p ≡ v p
+low-put v b p s y h = rw (ne-eqb p (placeSlot b + 1) (λ e. omega arith), ne-eqb p (placeSlot b) (λ e. omega arith))
 
 -- ---- the newest pair
 
@@ -122,14 +122,14 @@ sound-at h size r false e = rw e (record { few = r .few; most = r .most; ring = 
 -- ---- `push` and `update`
 
 -- the two scratch vectors copied to the place after the newest
-pub pair-pushed : {h g : Shape} {size : ℕ} (old theta : Float) (k w : ℕ) (a b : Vecs) → Sound h size → w ≡ wrap (h .m) (h .oldest + h .pairs) → k ≡ 16 + 2 * w
+pub pair-pushed : {h g : Shape} {size : ℕ} (old theta : Float) (k w : ℕ) (a b : Vecs) → Sound h size → w ≡ wrap (h .m) (h .oldest + h .pairs) → k ≡ placeSlot w
     → b ≡ copyOf (k + 1) Displacement (copyOf k Velocity a) → g ≡ pushedShape h → Pushed h old theta a g b
 pair-pushed {h} {g} old theta k w a b r d e q j =
     let at = wrap (h .m) (h .oldest + h .pairs) in
     let same : b ≡ pairPut a at (a Velocity) (a Displacement) =
     q
-    ∙ ap (λ (i : ℕ). copyOf (i + 1) Displacement (copyOf i Velocity a)) (e ∙ ap (λ (i : ℕ). 16 + 2 * i) d)
-    ∙ ap (pairPut a at (a Velocity)) (upd-other a (16 + 2 * at) Displacement (a Velocity) (λ z. omega arith)) in
+    ∙ ap (λ (i : ℕ). copyOf (i + 1) Displacement (copyOf i Velocity a)) (e ∙ ap (λ (i : ℕ). placeSlot i) d)
+    ∙ ap (pairPut a at (a Velocity)) (upd-other a (placeSlot at) Displacement (a Velocity) (λ z. omega arith)) in
     record {
       sound = λ size s. rw j (sound-at h size s (ltb (h .pairs) (h .m)) refl);
       n = rw j;

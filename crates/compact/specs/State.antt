@@ -10,7 +10,7 @@ use Rattle.definition.specs.Vector.{tab, foldTo, word}
 use Rattle.definition.specs.Solve.{Matrix}
 use Rattle.definition.specs.Compact as C
 use Rattle.definition.specs.Compact.{wrap}
-use Rattle.area.specs.Area.{Vecs, upd, given, Velocity, Displacement}
+use Rattle.area.specs.Area.{Vecs, upd, given, Velocity, Displacement, firstPair, placeSlot, firstColumn, vectors}
 use Rattle.solve.specs.Factors.{Factored}
 use Rattle.compact.specs.declared.Shape.{Shape}
 
@@ -18,11 +18,11 @@ use Rattle.compact.specs.declared.Shape.{Shape}
 
 -- pair k, oldest first: s, and y in the next vector
 abbrev pub pairSlot : Shape → ℕ → ℕ
-pairSlot h k = 16 + 2 * wrap (h .m) (h .oldest + k)
+pairSlot h k = placeSlot (wrap (h .m) (h .oldest + k))
 
 -- column k of W, past the pairs
 abbrev pub columnSlot : Shape → ℕ → ℕ
-columnSlot h k = 16 + 2 * h .m + k
+columnSlot h k = firstColumn (h .m) + k
 
 abbrev pub pairAt : Shape → Vecs → ℕ → C.Pair
 pairAt h v k = record { s = v (pairSlot h k); y = v (pairSlot h k + 1) }
@@ -38,7 +38,7 @@ pub record Sound (h : Shape) (size : ℕ) : Type 0 where
   pub few : h .m ≤ 16
   pub most : h .pairs ≤ h .m
   pub ring : h .oldest < h .m
-  pub all : (16 + 4 * h .m) * h .n ≤ size
+  pub all : vectors (h .m) * h .n ≤ size
 
 -- r is the slot of the s of pair k, and the y is in the next
 pub record Slot (h : Shape) (k r size : ℕ) : Type 0 where
@@ -47,7 +47,7 @@ pub record Slot (h : Shape) (k r size : ℕ) : Type 0 where
   pub y : (v : Vecs) → v (r + 1) ≡ C.pairOf (pairsOf h v) k .y
   pub first : r * h .n + h .n ≤ size
   pub second : (r + 1) * h .n + h .n ≤ size
-  pub low : r + 2 ≤ 16 + 2 * h .m
+  pub low : r + 2 ≤ firstColumn (h .m)
 
 -- ---- `update`
 
@@ -61,7 +61,7 @@ pushedShape h = record {
 
 -- the vectors below the pairs are as they were
 abbrev pub FixedKept : Vecs → Vecs → Type 0
-FixedKept a b = (q : ℕ) → q < 16 → b q ≡ a q
+FixedKept a b = (q : ℕ) → q < firstPair → b q ≡ a q
 
 -- g and theta with the vectors b are h and old with a, the pair of the two scratch vectors pushed with theta
 pub record Pushed (h : Shape) (old theta : Float) (a : Vecs) (g : Shape) (b : Vecs) : Type 0 where
@@ -86,7 +86,7 @@ pub record Laid (h : Shape) (theta : Float) (v : Vecs) : Type 0 where
 
 -- every vector below the columns is as it was
 abbrev pub PairsKept : Shape → Vecs → Vecs → Type 0
-PairsKept h a b = (q : ℕ) → q < 16 + 2 * h .m → b q ≡ a q
+PairsKept h a b = (q : ℕ) → q < firstColumn (h .m) → b q ≡ a q
 
 -- the first k rows of the block, in an array of 32
 abbrev pub blockTo : Shape → Float → Vecs → ℕ → Matrix

@@ -7,7 +7,7 @@ ghost use Rattle.definition.specs.Number.{over, times, minus, zero64};
 ghost use Rattle.definition.specs.Vector.{tab, dot as dotOf};
 ghost use Rattle.definition.specs.Compact.{curved as curvedOf, usable as usableOf, pairOf, columnWord, diagonalEntry, lowerEntry, blockEntry};
 ghost use Rattle.definition.specs.Compact.{wrap, padded, zeroRow, block as blockOf, rightSide, weights as weightsOf};
-ghost use Rattle.area.specs.Area.{view, upd, rowwise};
+ghost use Rattle.area.specs.Area.{view, upd, rowwise, firstPair};
 ghost use Rattle.solve.specs.Answers.{answerOf};
 ghost use Rattle.compact.specs.State.{pairsOf, compactOf, columnSlot, blockTo, Sound, Slot, pushedShape, Pushed, Laid, PairsKept, Prepared, Multiplied, lessTo};
 
@@ -37,7 +37,7 @@ pub fn pair_slot(area: &[f64], h: Shape, k: usize) -> usize
     requires { ⌜ Sound h (length (now area)) × (k < h .pairs) ⌝ }
     ensures { λ r. ⌜ Slot h k r (length (now (area .entry))) ⌝ }
 {
-    16 + 2 * wrapped(h.m, h.oldest + k)
+    area::FIRST_PAIR + 2 * wrapped(h.m, h.oldest + k)
 }
 
 // ---- update
@@ -81,7 +81,7 @@ fn push(area: &mut [f64], h: Shape, old: f64, theta: f64) -> Shape
     requires { ⌜ Sound h (length (now area)) ⌝ }
     ensures { λ r. ⌜ Pushed h old theta (view (now (area .entry)) (h .n)) r (view (now (area .exit)) (h .n)) ⌝ }
 {
-    let k = 16 + 2 * wrapped(h.m, h.oldest + h.pairs);
+    let k = area::FIRST_PAIR + 2 * wrapped(h.m, h.oldest + h.pairs);
     area::copy(area, h.n, k, area::VELOCITY);
     area::copy(area, h.n, k + 1, area::DISPLACEMENT);
     pushed(h)
@@ -231,7 +231,7 @@ fn lay_column(area: &mut [f64], h: Shape, theta: f64, k: usize)
     requires { ⌜ Sound h (length (now area)) × (k < 2 * h .pairs) ⌝ }
     ensures { λ _. ⌜ view (now (area .exit)) (h .n) ≡ upd (view (now (area .entry)) (h .n)) (columnSlot h k) (tab (h .n) (columnWord (compactOf h theta (view (now (area .entry)) (h .n))) k)) ⌝ }
 {
-    let to = 16 + 2 * h.m + k;
+    let to = area::FIRST_PAIR + 2 * h.m + k;
     if k < h.pairs {
         let p = pair_slot(area, h, k);
         area::copy(area, h.n, to, p + 1);
@@ -258,14 +258,14 @@ pub fn lay_columns(area: &mut [f64], h: Shape, theta: f64)
 
 // The columns' products with vector q.
 fn right_side(area: &[f64], h: Shape, theta: f64, q: usize) -> [f64; 32]
-    requires { ⌜ Sound h (length (now area)) × Laid h theta (view (now area) (h .n)) × (q < 16) ⌝ }
+    requires { ⌜ Sound h (length (now area)) × Laid h theta (view (now area) (h .n)) × (q < firstPair) ⌝ }
     ensures { λ r. ⌜ r ≡ rightSide (h .n) (compactOf h theta (view (now (area .entry)) (h .n))) (view (now (area .entry)) (h .n) q) ⌝ }
 {
     let size = 2 * h.pairs;
     let mut r = zeros();
     let mut k = 0;
     while k < size {
-        r[k] = area::dot(area, h.n, 16 + 2 * h.m + k, q);
+        r[k] = area::dot(area, h.n, area::FIRST_PAIR + 2 * h.m + k, q);
         k += 1;
     }
     r
@@ -282,7 +282,7 @@ fn weights(
     order: &[usize; 32],
     q: usize,
 ) -> solve::Answer
-    requires { ⌜ Sound h (length (now area)) × Prepared h theta found (now rows) (now multipliers) (now order) (view (now area) (h .n)) × (q < 16) ⌝ }
+    requires { ⌜ Sound h (length (now area)) × Prepared h theta found (now rows) (now multipliers) (now order) (view (now area) (h .n)) × (q < firstPair) ⌝ }
     ensures { λ r. ⌜ answerOf r ≡ weightsOf (h .n) (compactOf h theta (view (now (area .entry)) (h .n))) (view (now (area .entry)) (h .n) q) ⌝ }
 {
     if h.pairs == 0 {
@@ -309,14 +309,14 @@ fn less(area: &mut [f64], n: usize, p: usize, q: usize, w: f64)
 
 // Vector p becomes theta times vector q, less each column with its weight.
 fn less_columns(area: &mut [f64], h: Shape, theta: f64, z: [f64; 32], p: usize, q: usize)
-    requires { ⌜ Sound h (length (now area)) × Laid h theta (view (now area) (h .n)) × (p < 16) × (q < 16) ⌝ }
+    requires { ⌜ Sound h (length (now area)) × Laid h theta (view (now area) (h .n)) × (p < firstPair) × (q < firstPair) ⌝ }
     ensures { λ _. ⌜ view (now (area .exit)) (h .n) ≡ upd (view (now (area .entry)) (h .n)) p (tab (h .n) (lessTo (compactOf h theta (view (now (area .entry)) (h .n))) z (view (now (area .entry)) (h .n) q) (2 * h .pairs))) ⌝ }
 {
     let size = 2 * h.pairs;
     scale(area, h.n, p, q, theta);
     let mut k = 0;
     while k < size {
-        less(area, h.n, p, 16 + 2 * h.m + k, z[k]);
+        less(area, h.n, p, area::FIRST_PAIR + 2 * h.m + k, z[k]);
         k += 1;
     }
 }
@@ -333,7 +333,7 @@ pub fn product(
     p: usize,
     q: usize,
 ) -> bool
-    requires { ⌜ Sound h (length (now area)) × Prepared h theta found (now rows) (now multipliers) (now order) (view (now area) (h .n)) × (p < 16) × (q < 16) ⌝ }
+    requires { ⌜ Sound h (length (now area)) × Prepared h theta found (now rows) (now multipliers) (now order) (view (now area) (h .n)) × (p < firstPair) × (q < firstPair) ⌝ }
     ensures { λ r. ⌜ Multiplied h theta p q (view (now (area .entry)) (h .n)) r (view (now (area .exit)) (h .n)) ⌝ }
 {
     let w = weights(area, h, theta, found, rows, multipliers, order, q);

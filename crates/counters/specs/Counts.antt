@@ -1,5 +1,5 @@
 -- The definition's counters and terminations, read off the structs of the code.
-use Prim.Native.Nat.{ℕ, _<_}
+use Prim.Native.Nat.{ℕ}
 use mathlib.Core.Bool.{Bool, cond}
 use mathlib.Core.Option.{Option, none, some}
 use Rattle.definition.specs.Problem as P
@@ -11,7 +11,7 @@ use Rattle.counters.specs.declared.Termination.{Termination}
 use Rattle.counters.specs.declared.Termination.the-variants.{GTol, FTol, MaxIterations, MaxEvaluations, Cancelled, Nonfinite, LineSearchFailed, ObjectiveFailed}
 
 abbrev pub countersOf : Counters → C.Counters
-countersOf k = record { nit = k .nit; nfev = k .nfev; njev = k .njev; drawn = k .drawn }
+countersOf k = record { nit = k .nit; nfev = k .nfev; njev = k .njev }
 
 abbrev pub terminationOf : Termination → C.Termination
 terminationOf GTol = C.Termination.gtol
@@ -23,11 +23,9 @@ terminationOf Nonfinite = C.Termination.nonfinite
 terminationOf LineSearchFailed = C.Termination.lineSearchFailed
 terminationOf ObjectiveFailed = C.Termination.objectiveFailed
 
--- room for another of each count that no budget bounds where it is charged
-pub record Small (k : Counters) : Type 0 where
-  pub nit : k .nit < 0x4000_0000_0000_0000
-  pub njev : k .njev < 0x4000_0000_0000_0000
-  pub drawn : k .drawn < 0x4000_0000_0000_0000
+-- no count is near where a sum would wrap
+abbrev pub mostCounted : ℕ
+mostCounted = 0x4000_0000_0000_0000
 
 -- ---- a value question, charged only while the budget lasts
 

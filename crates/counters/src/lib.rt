@@ -3,7 +3,7 @@ ghost use mathlib.Core.Path.{_≡_};
 ghost use Prim.Native.Nat.{_<_};
 ghost use Rattle.definition.specs.Counters.{statusNumber, firstCounters, valueLeft, chargeGradient as chargeGradientOf, chargeIteration as chargeIterationOf, iterationsSpent};
 ghost use Rattle.problem.specs.Setups.{limitsOf};
-ghost use Rattle.counters.specs.Counts.{countersOf, terminationOf, chargeOf, chargedIf, valueCharged, valueCharge};
+ghost use Rattle.counters.specs.Counts.{countersOf, terminationOf, chargeOf, chargedIf, valueCharged, valueCharge, mostCounted};
 use problem::Limits;
 
 pub enum Termination {
@@ -17,11 +17,13 @@ pub enum Termination {
     ObjectiveFailed,
 }
 
+// No count is near where a sum would wrap.
+pub const MOST_COUNTED: usize = 0x4000_0000_0000_0000;
+
 pub struct Counters {
     pub nit: usize,
     pub nfev: usize,
     pub njev: usize,
-    pub drawn: usize,
 }
 
 // What a value question costs: the counters with it charged, or nothing where the budget is spent.
@@ -54,7 +56,6 @@ pub fn first_counters() -> Counters
         nit: 0,
         nfev: 1,
         njev: 0,
-        drawn: 1,
     }
 }
 
@@ -67,7 +68,6 @@ fn value_left(l: Limits, k: Counters) -> bool
 
 // A value question charged, while the budget lasts.
 fn charge_value(l: Limits, k: Counters) -> Counters
-    requires { ⌜ k .drawn < 0x4000_0000_0000_0000 ⌝ }
     ensures { λ r. ⌜ countersOf r ≡ valueCharged (limitsOf l) (countersOf k) ⌝ }
 {
     if value_left(l, k) {
@@ -75,7 +75,6 @@ fn charge_value(l: Limits, k: Counters) -> Counters
             nit: k.nit,
             nfev: k.nfev + 1,
             njev: k.njev,
-            drawn: k.drawn + 1,
         };
     }
     k
@@ -83,27 +82,25 @@ fn charge_value(l: Limits, k: Counters) -> Counters
 
 // A gradient charged: supplied, or differenced and complete.
 fn charge_gradient(k: Counters) -> Counters
-    requires { ⌜ k .njev < 0x4000_0000_0000_0000 ⌝ }
+    requires { ⌜ k .njev < mostCounted ⌝ }
     ensures { λ r. ⌜ countersOf r ≡ chargeGradientOf (countersOf k) ⌝ }
 {
     Counters {
         nit: k.nit,
         nfev: k.nfev,
         njev: k.njev + 1,
-        drawn: k.drawn,
     }
 }
 
 // An iteration charged, before its notice.
 fn charge_iteration(k: Counters) -> Counters
-    requires { ⌜ k .nit < 0x4000_0000_0000_0000 ⌝ }
+    requires { ⌜ k .nit < mostCounted ⌝ }
     ensures { λ r. ⌜ countersOf r ≡ chargeIterationOf (countersOf k) ⌝ }
 {
     Counters {
         nit: k.nit + 1,
         nfev: k.nfev,
         njev: k.njev,
-        drawn: k.drawn,
     }
 }
 
@@ -116,7 +113,6 @@ pub fn iterations_spent(l: Limits, k: Counters) -> bool
 
 // `Counters::value`: charges a value question and says so, or says that the budget is spent and charges nothing.
 pub fn value(l: Limits, k: &mut Counters) -> bool
-    requires { ⌜ now k .drawn < 0x4000_0000_0000_0000 ⌝ }
     ensures { λ r. ⌜ (countersOf (now (k .exit)) ≡ valueCharged (limitsOf l) (countersOf (now (k .entry)))) × (r ≡ valueLeft (limitsOf l) (countersOf (now (k .entry)))) ⌝ }
 {
     let c = *k;
@@ -127,7 +123,7 @@ pub fn value(l: Limits, k: &mut Counters) -> bool
 
 // `Counters::charge_gradient`
 pub fn gradient(k: &mut Counters)
-    requires { ⌜ now k .njev < 0x4000_0000_0000_0000 ⌝ }
+    requires { ⌜ now k .njev < mostCounted ⌝ }
     ensures { λ _. ⌜ countersOf (now (k .exit)) ≡ chargeGradientOf (countersOf (now (k .entry))) ⌝ }
 {
     *k = charge_gradient(*k);
@@ -135,7 +131,7 @@ pub fn gradient(k: &mut Counters)
 
 // The count of `Counters::end_iteration`
 pub fn iteration(k: &mut Counters)
-    requires { ⌜ now k .nit < 0x4000_0000_0000_0000 ⌝ }
+    requires { ⌜ now k .nit < mostCounted ⌝ }
     ensures { λ _. ⌜ countersOf (now (k .exit)) ≡ chargeIterationOf (countersOf (now (k .entry))) ⌝ }
 {
     *k = charge_iteration(*k);
@@ -153,7 +149,6 @@ fn charge_of(left: bool, k: Counters) -> Charge
 
 // `value` for a caller that has the counters by value.
 pub fn value_charged(l: Limits, k: Counters) -> Charge
-    requires { ⌜ k .drawn < 0x4000_0000_0000_0000 ⌝ }
     ensures { λ r. ⌜ chargeOf r ≡ valueCharge (limitsOf l) (countersOf k) ⌝ }
 {
     let mut c = k;
@@ -163,7 +158,7 @@ pub fn value_charged(l: Limits, k: Counters) -> Charge
 
 // `gradient` for a caller that has the counters by value.
 pub fn gradient_charged(k: Counters) -> Counters
-    requires { ⌜ k .njev < 0x4000_0000_0000_0000 ⌝ }
+    requires { ⌜ k .njev < mostCounted ⌝ }
     ensures { λ r. ⌜ countersOf r ≡ chargeGradientOf (countersOf k) ⌝ }
 {
     let mut c = k;
@@ -173,7 +168,7 @@ pub fn gradient_charged(k: Counters) -> Counters
 
 // `iteration` for a caller that has the counters by value.
 pub fn iteration_charged(k: Counters) -> Counters
-    requires { ⌜ k .nit < 0x4000_0000_0000_0000 ⌝ }
+    requires { ⌜ k .nit < mostCounted ⌝ }
     ensures { λ r. ⌜ countersOf r ≡ chargeIterationOf (countersOf k) ⌝ }
 {
     let mut c = k;

@@ -8,10 +8,9 @@ use mathlib.Core.Option.{none}
 use lib.ListN.{length}
 use Rattle.definition.specs.Problem.{Setup, refuse, limitsOf}
 use Rattle.definition.specs.Counters.{Termination}
-use Rattle.definition.specs.Machine.{Reply, Phase, Machine, checkDue, questionIn, question}
+use Rattle.definition.specs.Machine.{Reply, Phase, Machine, isValue, isGradient, isNotice, isFailure, checkDue, questionIn, question}
 use Rattle.definition.specs.Driver.{run}
-use Rattle.definition.specs.Replies.{Accepted, Due, isValue, isNotice, isFailure, countOf, openOf}
-use Rattle.definition.specs.Facts.{isGradient}
+use Rattle.definition.specs.Replies.{Accepted, Due, countOf, openOf}
 use Rattle.definition.proofs.Turns.{none-suits}
 use Rattle.definition.proofs.Counts.{opens, counted, failures}
 

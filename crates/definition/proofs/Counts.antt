@@ -15,10 +15,10 @@ use Rattle.definition.specs.Vector.{zeros}
 use Rattle.definition.specs.Problem.{Setup, Terms, Limits, termsOf, limitsOf}
 use Rattle.definition.specs.Counters.{Termination, Counters, valueLeft}
 use Rattle.definition.specs.Gradient.{probesAt}
-use Rattle.definition.specs.Machine.{Reply, Place, Phase, Machine, inPhase, ending, kindOf, suits, takes}
+use Rattle.definition.specs.Machine.{Reply, Place, Phase, Machine, isValue, isGradient, isNotice, isFailure, inPhase, ending, kindOf, suits, takes}
 use Rattle.definition.specs.Driver.{withGradient, valued, learn, move, begin, run}
-use Rattle.definition.specs.Replies.{Accepted, Due, isValue, isNotice, isFailure, countOf, openOf}
-use Rattle.definition.specs.Facts.{isGradient, failedOf, unprobedFrom, lastAsked, completesGradient, gradientsCompleted, Counted}
+use Rattle.definition.specs.Replies.{Accepted, Due, countOf, openOf}
+use Rattle.definition.specs.Facts.{failedOf, unprobedFrom, lastAsked, completesGradient, gradientsCompleted, Counted}
 use Rattle.definition.proofs.Accepted.{accepted-in-limits, due-taken}
 use Rattle.definition.proofs.Turns.{Turn, turn, asking, gathered, started, Descends, descend-leads, Gathers, complete-leads, from-leads, probed-leads}
 
@@ -31,13 +31,12 @@ record KeptIn (b : Machine) (j : ℕ) (t : Terms) (l : Limits) (k : Counters) : 
   values : k .nfev ≡ b .counters .nfev
   notices : k .nit ≡ b .counters .nit
   completed : k .njev ≡ b .counters .njev + j
-  drawn : k .drawn ≡ b .counters .drawn
 
 abbrev Kept : Machine → ℕ → Machine → Type 0
 Kept b j m = KeptIn b j (m .terms) (m .limits) (m .counters)
 
 kept : (b : Machine) → Kept b 0 b
-kept b = record { terms = refl; limits = refl; values = refl; notices = refl; completed = omega arith; drawn = refl }
+kept b = record { terms = refl; limits = refl; values = refl; notices = refl; completed = omega arith }
 
 -- at the next question, or the end: what is open was counted; it asks at most g gradients
 record Charged (b : Machine) (g j : ℕ) (m : Machine) : Type 0 where
@@ -45,7 +44,6 @@ record Charged (b : Machine) (g j : ℕ) (m : Machine) : Type 0 where
   notices : m .counters .nit ≡ b .counters .nit + openOf 3 m
   gradients : openOf 2 m ≤ g
   completed : m .counters .njev ≡ b .counters .njev + j
-  drawn : m .counters .drawn + b .counters .nfev ≡ b .counters .drawn + m .counters .nfev
   within : b .counters .nfev ≤ b .limits .maxfev → m .counters .nfev ≤ b .limits .maxfev
 
 record Raised (b : Machine) (g j : ℕ) (m : Machine) : Type 0 where
@@ -78,7 +76,7 @@ module _ {b : Machine} (g : ℕ) {j : ℕ} where
   }
 
 one-more : {b : Machine} (m : Machine) → Kept b 0 m → Kept b 1 (gathered m)
-one-more m h = record { terms = h .terms; limits = h .limits; values = h .values; notices = h .notices; completed = omega arith; drawn = h .drawn }
+one-more m h = record { terms = h .terms; limits = h .limits; values = h .values; notices = h .notices; completed = omega arith }
 
 gathers : (b : Machine) (g : ℕ) → Gathers (λ w. Kept b 0) (Kept b 1) (λ c. Raised b g (cond c 1 0))
 gathers b g = record {
@@ -197,7 +195,6 @@ pub record Few (most : ℕ) (k : Counters) : Type 0 where
   pub nit : k .nit ≤ most
   pub nfev : k .nfev ≤ most + 1
   pub njev : k .njev ≤ most
-  pub drawn : k .drawn ≤ most + 1
 
 one-most : (b : Bool) → cond b 1 0 ≤ 1
 one-most true = omega arith
@@ -268,9 +265,6 @@ module _ (s : Setup) (rs : List Reply) (accepted : Accepted s) (due : Due s rs) 
 
   pub njev-counts-gradients : run s rs .counters .njev ≡ gradientsCompleted s rs
   njev-counts-gradients = counted s rs accepted due .completed
-
-  pub drawn-is-nfev : run s rs .counters .drawn ≡ run s rs .counters .nfev
-  drawn-is-nfev = counted s rs accepted due .drawn
 
   pub nfev-within-budget : run s rs .counters .nfev ≤ limitsOf s .maxfev
   nfev-within-budget = counted s rs accepted due .valueBudget

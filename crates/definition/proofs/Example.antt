@@ -7,6 +7,7 @@ use mathlib.Core.Option.{Option, none, some}
 use lib.Ieee.{Float}
 use Rattle.definition.specs.Number.{zero64, one64, toWord}
 use Rattle.definition.specs.Machine.{Reply, Question}
+use Rattle.definition.specs.Book.{Book, book, openedBook}
 use Rattle.definition.specs.Record.{Lengths, Reading, readRecord, recordBytes}
 use Rattle.definition.specs.History.{Call, Answer, History, historyAfter, historyAnswers}
 use Rattle.definition.specs.Starred.{parabola, parabolaReplies, four, eight, reported, setup}
@@ -20,6 +21,9 @@ lengths area log = record { area = area; log = log }
 
 abbrev valueAt : Float → Option Question
 valueAt x = some (record { kind = 1; point = x ∷ [] })
+
+abbrev fitted : Book
+fitted = book parabola parabolaReplies
 
 -- each call with its answer; the area needs 496 words, the entries of the case are 9
 infixl 20 _gives_
@@ -73,32 +77,32 @@ script =
     ∷ (Call.entry 0 2 gives Answer.entered (1 ∷ toWord eight ∷ []))
     ∷ (Call.entry 5 0 gives Answer.entered [])
     ∷ (Call.save 183 gives refused 19 184 0)
-    ∷ (Call.save 184 gives Answer.saved (recordBytes parabola parabolaReplies))
+    ∷ (Call.save 184 gives Answer.saved (recordBytes fitted))
     ∷ []
 
 pub script-answered : historyAnswers (lengths 496 9) History.empty (calls script) ≡ answers script
 unfolding opened
 script-answered = refl
 
-pub script-kept : historyAfter (lengths 496 9) History.empty (calls script) ≡ History.fit parabola parabolaReplies
+pub script-kept : historyAfter (lengths 496 9) History.empty (calls script) ≡ History.fit fitted
 unfolding opened
 script-kept = refl
 
 -- a log of 8 words, an area of 495
 pub too-short :
-    (historyAnswers (lengths 496 8) (History.fit parabola (Reply.gradient (0 ∷ []) ∷ Reply.value 0 ∷ Reply.gradient (toWord four ∷ []) ∷ Reply.value (toWord eight) ∷ [])) (Call.reply Reply.goOn ∷ [])
+    (historyAnswers (lengths 496 8) (History.fit (book parabola (Reply.gradient (0 ∷ []) ∷ Reply.value 0 ∷ Reply.gradient (toWord four ∷ []) ∷ Reply.value (toWord eight) ∷ []))) (Call.reply Reply.goOn ∷ [])
     ≡ refused 12 0 0 ∷ [])
     × (historyAnswers (lengths 495 9) History.empty (Call.start parabola ∷ []) ≡ refused 11 496 0 ∷ [])
 unfolding opened
 too-short = (refl, refl)
 
-pub there-and-back : readRecord (lengths 496 9) (recordBytes parabola parabolaReplies) ≡ Reading.accepted parabola parabolaReplies
+pub there-and-back : readRecord (lengths 496 9) (recordBytes fitted) ≡ Reading.accepted fitted
 unfolding opened
 there-and-back = refl
 
 -- a record whose entries do not fit the log empties the history; one whose area is too short does not
 pub emptied :
-    (historyAfter (lengths 496 8) (History.fit parabola []) (Call.restore (recordBytes parabola parabolaReplies) ∷ []) ≡ History.empty)
-    × (historyAfter (lengths 495 8) (History.fit parabola []) (Call.restore (recordBytes parabola parabolaReplies) ∷ []) ≡ History.fit parabola [])
+    (historyAfter (lengths 496 8) (History.fit (openedBook parabola)) (Call.restore (recordBytes fitted) ∷ []) ≡ History.empty)
+    × (historyAfter (lengths 495 8) (History.fit (openedBook parabola)) (Call.restore (recordBytes fitted) ∷ []) ≡ History.fit (openedBook parabola))
 unfolding opened
 emptied = (refl, refl)

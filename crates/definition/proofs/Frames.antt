@@ -10,6 +10,7 @@ use lib.Seq.{drop-at, take-all, drop-drop}
 use borrow.Author.Tests.{eqb-true, ltb-false, leb-true, le-ltb, le-leb}
 use Rattle.definition.specs.Problem.{Setup, Refusal}
 use Rattle.definition.specs.Machine.{Reply}
+use Rattle.definition.specs.Book.{Book}
 use Rattle.definition.specs.Record.{Lengths, Reading, writtenVersion, knownVersion, bytes, wordsOf, plainRefusal, readTrailed, readWords, readRecord}
 use Rattle.definition.specs.Values.{Bytes, Words}
 use Rattle.definition.proofs.Lists.{each-drop}
@@ -50,24 +51,24 @@ read-framed z ahead ws p q h k =
 -- ---- what is accepted stood so
 
 -- `ws` are the words before a trailer with the sums p and q
-pub record Framed (z : Lengths) (bs : List ℕ) (s : Setup) (rs : List Reply) : Type 0 where
+pub record Framed (z : Lengths) (bs : List ℕ) (k : Book) : Type 0 where
   pub ws : List ℕ
   pub p : ℕ
   pub q : ℕ
-  pub read : readWords z ws p q ≡ Reading.accepted s rs
+  pub read : readWords z ws p q ≡ Reading.accepted k
   pub words : Bytes bs → Words ws
   pub stands : Bytes bs → (ahead : List ℕ) × (bs ≡ ahead ++ bytes (ws ++ trailing p q (length ws)))
 
-unless-true : (t : Bool) (c : Refusal) (r : Reading) (s : Setup) (rs : List Reply) → cond t (Reading.refused c) r ≡ Reading.accepted s rs
-    → (t ≡ false) × (r ≡ Reading.accepted s rs)
-unless-true true c r s rs e = let z : _≡_ {A = ℕ} 0 1 = cc in absurd (omega arith)
-unless-true false c r s rs e = (refl, e)
+unless-true : (t : Bool) (c : Refusal) (r : Reading) (k : Book) → cond t (Reading.refused c) r ≡ Reading.accepted k
+    → (t ≡ false) × (r ≡ Reading.accepted k)
+unless-true true c r k e = let z : _≡_ {A = ℕ} 0 1 = cc in absurd (omega arith)
+unless-true false c r k e = (refl, e)
 
-unless-false : (a b : Bool) (c : Refusal) (r : Reading) (s : Setup) (rs : List Reply) → cond (a && b) r (Reading.refused c) ≡ Reading.accepted s rs
-    → (a ≡ true) × (b ≡ true) × (r ≡ Reading.accepted s rs)
-unless-false true true c r s rs e = (refl, refl, e)
-unless-false true false c r s rs e = let z : _≡_ {A = ℕ} 0 1 = cc in absurd (omega arith)
-unless-false false b c r s rs e = let z : _≡_ {A = ℕ} 0 1 = cc in absurd (omega arith)
+unless-false : (a b : Bool) (c : Refusal) (r : Reading) (k : Book) → cond (a && b) r (Reading.refused c) ≡ Reading.accepted k
+    → (a ≡ true) × (b ≡ true) × (r ≡ Reading.accepted k)
+unless-false true true c r k e = (refl, refl, e)
+unless-false true false c r k e = let z : _≡_ {A = ℕ} 0 1 = cc in absurd (omega arith)
+unless-false false b c r k e = let z : _≡_ {A = ℕ} 0 1 = cc in absurd (omega arith)
 
 -- bytes from place i on are `count` words and a trailer
 stands-at : (bs : List ℕ) (i count : ℕ) → Bytes bs → i + 8 * count + 32 ≡ length bs
@@ -88,20 +89,20 @@ four-words : (bs : List ℕ) (count : ℕ) → getD (wordsOf 4 bs) 2 0 ≡ 1 →
 unfolding wordsOf
 four-words bs count e f = ap₂ (λ (a b : ℕ). getD (wordsOf 4 bs) 0 0 ∷ getD (wordsOf 4 bs) 1 0 ∷ a ∷ b ∷ []) e f
 
-pub accepted-framed : (z : Lengths) (bs : List ℕ) (s : Setup) (rs : List Reply) → readRecord z bs ≡ Reading.accepted s rs → Framed z bs s rs
+pub accepted-framed : (z : Lengths) (bs : List ℕ) (k : Book) → readRecord z bs ≡ Reading.accepted k → Framed z bs k
 unfolding readRecord
-accepted-framed z bs s rs e =
+accepted-framed z bs k e =
     let t = wordsOf 4 (drop (length bs - 32) bs) in
     let count = getD t 3 0 in
     let i = length bs - 32 - 8 * count in
     let ws = wordsOf count (drop i bs) in
-    let a = unless-true (ltb (length bs) 32) (plainRefusal 17) (readTrailed z bs t) s rs e in
-    let b = unless-false (knownVersion (getD t 2 0)) (leb (8 * count) (length bs - 32)) (plainRefusal 17) (readWords z ws (getD t 0 0) (getD t 1 0)) s rs (a .1) in
+    let a = unless-true (ltb (length bs) 32) (plainRefusal 17) (readTrailed z bs t) k e in
+    let b = unless-false (knownVersion (getD t 2 0)) (leb (8 * count) (length bs - 32)) (plainRefusal 17) (readWords z ws (getD t 0 0) (getD t 1 0)) k (a .1) in
     let long : 32 ≤ length bs = ltb-false (length bs) 32 (a .0) in
     let room : 8 * count ≤ length bs - 32 = leb-true (8 * count) (length bs - 32) (b .1) in
     let at-trailer : i + 8 * count ≡ length bs - 32 = omega arith in
     let same : wordsOf 4 (drop (i + 8 * count) bs) ≡ trailing (getD t 0 0) (getD t 1 0) (length ws)
-    = ap (λ (k : ℕ). wordsOf 4 (drop k bs)) at-trailer
+    = ap (λ (at : ℕ). wordsOf 4 (drop at bs)) at-trailer
     ∙ four-words (drop (length bs - 32) bs) (length ws) (eqb-true (getD t 2 0) 1 (b .0)) (sym (wordsOf-length count (drop i bs))) in
     record {
       ws = ws;

@@ -7,12 +7,13 @@ use mathlib.Core.Bool.{cond}
 use mathlib.Core.List.{List, [], _∷_, _++_}
 use lib.ListN.{length, length-append}
 use Rattle.definition.specs.Problem.{Setup, Terms, dimension, maxcorOf, limitsOf, mostCoordinates, mostPairs, areaWords, areaNeeded}
-use Rattle.definition.specs.Machine.{Reply}
+use Rattle.definition.specs.Machine.{Reply, isValue, isGradient, isNotice, isFailure}
 use Rattle.definition.specs.Driver.{run}
 use Rattle.definition.specs.Log.{entryWords, logWords}
+use Rattle.definition.specs.Book.{Book, logOf}
 use Rattle.definition.specs.Record.{wordSize, setupWords, trailer, recordWords, recordBytes}
-use Rattle.definition.specs.Replies.{Accepted, Due, isValue, isNotice, isFailure, countOf}
-use Rattle.definition.specs.Facts.{isGradient, failedOf}
+use Rattle.definition.specs.Replies.{Accepted, Due, countOf}
+use Rattle.definition.specs.Facts.{failedOf}
 use Rattle.definition.proofs.Accepted.{accepted-in-limits, due-length}
 use Rattle.definition.proofs.Bytes.{bytes-length}
 use Rattle.definition.proofs.SetupWords.{setup-most}
@@ -75,20 +76,20 @@ log-length s rs a d =
 
 -- ---- the words of a record
 
-pub record-length : (s : Setup) (rs : List Reply) → length (recordWords s rs) ≡ length (setupWords s ++ logWords rs) + 4
+pub record-length : (b : Book) → length (recordWords b) ≡ length (setupWords (b .setup) ++ logOf b) + 4
 unfolding recordWords
-record-length s rs = length-append (setupWords s ++ logWords rs) (trailer (setupWords s ++ logWords rs))
+record-length b = length-append (setupWords (b .setup) ++ logOf b) (trailer (setupWords (b .setup) ++ logOf b))
 
--- what a record takes: 8 bytes a word, and besides the log's words at most 203
-pub record-bytes : (s : Setup) (rs : List Reply) → length (recordBytes s rs) ≡ 8 * length (recordWords s rs)
+-- what a record takes: 8 bytes a word, and besides the log's words at most those of a setup and 4 of the trailer
+pub record-bytes : (b : Book) → length (recordBytes b) ≡ 8 * length (recordWords b)
 unfolding recordBytes
-record-bytes s rs = bytes-length (recordWords s rs)
+record-bytes b = bytes-length (recordWords b)
 
-pub record-most : (s : Setup) (rs : List Reply) → Accepted s → length (recordWords s rs) ≤ length (logWords rs) + 203
-record-most s rs a = omega (arith, record-length s rs, length-append (setupWords s) (logWords rs), setup-most s a)
+pub record-most : (b : Book) → Accepted (b .setup) → length (recordWords b) ≤ length (logOf b) + (11 + 3 * mostCoordinates)
+record-most b a = omega (arith, record-length b, length-append (setupWords (b .setup)) (logOf b), setup-most (b .setup) a)
 
-pub record-fits : (s : Setup) (rs : List Reply) → Accepted s → Due s rs → length (recordWords s rs) < wordSize
-record-fits s rs a d =
-    let l = accepted-in-limits s a in
-    let n : 3 + dimension s ≤ 67 = omega (arith, l .coordinates .1) in
-    omega (arith, record-most s rs a, log-length s rs a d, mul-le-mul n (l .maxfev .1), l .maxiter .1)
+pub record-fits : (b : Book) → Accepted (b .setup) → Due (b .setup) (b .replies) → length (recordWords b) < wordSize
+record-fits b a d =
+    let l = accepted-in-limits (b .setup) a in
+    let n : 3 + dimension (b .setup) ≤ 3 + mostCoordinates = omega (arith, l .coordinates .1) in
+    omega (arith, record-most b a, log-length (b .setup) (b .replies) a d, mul-le-mul n (l .maxfev .1), l .maxiter .1)

@@ -14,11 +14,11 @@ use lib.Ieee.Bits.{is-true}
 use Rattle.definition.specs.Number.{zero64, infinity, negInfinity}
 use Rattle.definition.specs.Vector.{foldTo, word}
 use Rattle.definition.specs.Problem.{Setup, Bounds, Refusal, Check, refuse, when, _then_, eachIndex, given, checkSide, checkPair, checkBounds, checkProblem, positive, finitePositive, finiteNonnegative, checkCommon, checkOptions, mostCoordinates, mostPairs, mostBudget, atMost, checkLimits, validate, dimension, areaNeeded}
-use Rattle.definition.specs.Machine.{Reply, Machine, Question, takes, checkLength, checkDue, question, unreported}
-use Rattle.definition.specs.Driver.{run, begin}
-use Rattle.definition.specs.Log.{entryWords, logWords, entryOf, Entries, admitDue, admit, nextEntry, readEntries, entriesOf}
+use Rattle.definition.specs.Machine.{Reply, replyKind, broughtWords, Machine, Question, takes, checkLength, checkDue, question, unreported}
+use Rattle.definition.specs.Log.{entryWords, logWords, entryOf, Entries, admitDue, admit, nextEntry, oneMore, afterEntries, firstEntries, entriesOf}
+use Rattle.definition.specs.Book.{Book, runOf, logOf, entryAt}
 use Rattle.definition.specs.Record.{Lengths, Reading, setupIn, setupLength, wordsOf, recordWords, readingOf, checkArea, sameSums, malformed, checkWords, unlessRefused, readWords, framed, readRecord}
-use Rattle.definition.specs.History.{Call, Answer, History, refusalsOf, among, logShort, outputShort, checkQuestion, entryAt, refusal, answerUnless, restoredAnswer, historyAnswer}
+use Rattle.definition.specs.History.{Call, Answer, History, setupRow, mostRefusal, refusalsOf, among, logShort, outputShort, checkReply, checkQuestion, restoredAnswer, refusedBy, historyAnswer}
 use Rattle.definition.specs.Programs.{mostBytes, plenty, readInput}
 use Rattle.definition.proofs.Tests.{by-test, holds, both-hold}
 
@@ -40,10 +40,15 @@ of-row p (x ∷ xs) k h e =
     go false q e first rest = rest e
 
 -- every number of a call's rows is one of the table's
-pub table-numbers : (c : Call) (k : ℕ) → among k (refusalsOf c) ≡ true → (1 ≤ k) × (k ≤ 19)
-table-numbers c k e = let h = both-hold (leb 1 k) (leb k 19) (of-row (λ (i : ℕ). leb 1 i && leb i 19) (refusalsOf c) k (every c) e) in (leb→le 1 k (h .0), leb→le k 19 (h .1))
+pub table-numbers : (c : Call) (k : ℕ) → among k (refusalsOf c) ≡ true → (1 ≤ k) × (k ≤ mostRefusal)
+table-numbers c k e =
+    let h = both-hold (leb 1 k) (leb k mostRefusal) (of-row within (refusalsOf c) k (every c) e) in
+    (leb→le 1 k (h .0), leb→le k mostRefusal (h .1))
   where
-    every : (c : Call) → all-of (λ (i : ℕ). leb 1 i && leb i 19) (refusalsOf c) ≡ true
+    within : ℕ → Bool
+    within i = leb 1 i && leb i mostRefusal
+
+    every : (c : Call) → all-of within (refusalsOf c) ≡ true
     every (Call.start s) = refl
     every (Call.restore bs) = refl
     every (Call.reply r) = refl
@@ -83,9 +88,6 @@ if-given check none h = Numbered.passes
 if-given check (some a) h = h a
 
 -- ---- a setup
-
-abbrev pub setupRow : List ℕ
-setupRow = 1 ∷ 2 ∷ 3 ∷ 4 ∷ 5 ∷ 6 ∷ 7 ∷ 8 ∷ 9 ∷ 10 ∷ []
 
 side : (n : ℕ) (s : List Float) → Numbered setupRow (checkSide n s)
 side n s =
@@ -177,17 +179,18 @@ entry-next room (k ∷ ws) rs m = go (entryOf (m .terms .n) k ws)
     go none = refl
     go (some r) = entry-due room ws rs m r (checkDue m r)
 
-entries : (left room : ℕ) (e : Entries) → Entered e → Entered (readEntries left room e)
-unfolding readEntries
-entries zero room (Entries.kept rs) h = tt
-entries zero room (Entries.refusedAt c) h = h
-entries zero room (Entries.going ws rs m) h = refl
-entries (suc left) room (Entries.kept rs) h = tt
-entries (suc left) room (Entries.refusedAt c) h = h
-entries (suc left) room (Entries.going ws rs m) h = entries left room (nextEntry room ws rs m) (entry-next room ws rs m)
+entry-more : (room : ℕ) (e : Entries) → Entered e → Entered (oneMore room e)
+entry-more room (Entries.kept rs) h = tt
+entry-more room (Entries.refusedAt c) h = h
+entry-more room (Entries.going ws rs m) h = entry-next room ws rs m
+
+entries : (k room : ℕ) (e : Entries) → Entered e → Entered (afterEntries k room e)
+unfolding afterEntries
+entries zero room e h = h
+entries (suc k) room e h = entry-more room (afterEntries k room e) (entries k room e h)
 
 abbrev pub ReadNumbered : Reading → Type 0
-ReadNumbered (Reading.accepted s rs) = Unit {0}
+ReadNumbered (Reading.accepted b) = Unit {0}
 ReadNumbered (Reading.refused c) = among (c .number) recordRow ≡ true
 ReadNumbered (Reading.refusedAtEntry c) = among (c .number) entryRow ≡ true
 
@@ -211,7 +214,7 @@ read-words z ws p q =
     both (when (not (sameSums ws p q)) (refuse 18 0 0)) (when (malformed ws) (refuse 17 0 0) then validate s then checkArea z s)
     (tested (not (sameSums ws p q)) 18 0 0 refl) form in
     unless (checkWords z ws p q) (readingOf s (entriesOf s (z .log) rest)) checks
-    (reading s (entriesOf s (z .log) rest) (entries (length rest + 1) (z .log) (Entries.going rest [] (begin s)) tt))
+    (reading s (entriesOf s (z .log) rest) (entries (length rest + 1) (z .log) (firstEntries s rest) tt))
 
 pub record-numbered : (z : Lengths) (bs : List ℕ) → ReadNumbered (readRecord z bs)
 unfolding readRecord
@@ -227,47 +230,21 @@ input-numbered bs = by-test ReadNumbered (ltb mostBytes (length bs)) (λ _. refl
 -- ---- every call
 
 pub due : (m : Machine) (r : Reply) → Numbered (refusalsOf (Call.reply r)) (checkDue m r)
-due m r = both (when (not (takes m r)) (refuse 13 0 0)) (checkLength (m .terms .n) r) (tested (not (takes m r)) 13 0 0 refl) (sized (m .terms .n) r)
-  where
-    sized : (n : ℕ) (r : Reply) → Numbered (13 ∷ 14 ∷ 12 ∷ []) (checkLength n r)
-    sized n (Reply.value v) = Numbered.passes
-    sized n (Reply.gradient ws) = tested (not (eqb (length ws) n)) 14 n (length ws) refl
-    sized n Reply.notSupplied = Numbered.passes
-    sized n Reply.goOn = Numbered.passes
-    sized n Reply.stop = Numbered.passes
-    sized n Reply.failure = Numbered.passes
+due m r =
+    let n = m .terms .n in
+    let size = length (broughtWords r) in
+    both (when (not (takes m r)) (refuse 13 0 0)) (checkLength n r) (tested (not (takes m r)) 13 0 0 refl)
+    (tested (eqb (replyKind r) 2 && not (eqb size n)) 14 n size refl)
 
 pub short : {row : List ℕ} (room needed : ℕ) → among 19 row ≡ true → Numbered row (outputShort room needed)
 short room needed e = tested (ltb room needed) 19 needed 0 e
 
-asks : (s : Setup) (room : ℕ) (q : Option Question) → Numbered (19 ∷ []) (checkQuestion s room q)
-asks s room none = Numbered.passes
-asks s room (some q) = short room (dimension s) refl
+asks : (b : Book) (room : ℕ) (q : Option Question) → Numbered (19 ∷ []) (checkQuestion b room q)
+asks b room none = Numbered.passes
+asks b room (some q) = short room (dimension (b .setup)) refl
 
-call : (z : Lengths) (h : History) (c : Call) → Numbered (refusalsOf c) (refusal z h c)
-call z h (Call.start s) = opening z s
-call z h (Call.restore bs) = Numbered.passes
-call z History.empty (Call.reply r) = Numbered.refuses refl
-call z (History.fit s rs) (Call.reply r) =
-    let full = ltb (z .log) (length (logWords rs) + length (entryWords r)) in
-    both (checkDue (run s rs) r) (when full (refuse 12 0 0)) (due (run s rs) r) (tested full 12 0 0 refl)
-call z History.empty (Call.takeBack j) = tested (ltb 0 j) 16 0 0 refl
-call z (History.fit s rs) (Call.takeBack j) =
-    both (when (ltb (length rs) j) (refuse 16 0 0)) (logShort z rs) (tested (ltb (length rs) j) 16 0 0 refl) (tested (ltb (z .log) (length (logWords rs))) 12 0 0 refl)
-call z History.empty (Call.question room) = Numbered.passes
-call z (History.fit s rs) (Call.question room) = asks s room (question (run s rs))
-call z History.empty (Call.report room) = Numbered.refuses refl
-call z (History.fit s rs) (Call.report room) =
-    let none = unreported (run s rs .phase) in
-    both (when none (refuse 15 0 0)) (outputShort room (dimension s)) (tested none 15 0 0 refl) (short room (dimension s) refl)
-call z h Call.replies = Numbered.passes
-call z History.empty (Call.entry k room) = Numbered.passes
-call z (History.fit s rs) (Call.entry k room) =
-    both (logShort z rs) (outputShort room (length (entryAt rs k))) (tested (ltb (z .log) (length (logWords rs))) 12 0 0 refl) (short room (length (entryAt rs k)) refl)
-call z History.empty (Call.save room) = Numbered.passes
-call z (History.fit s rs) (Call.save room) =
-    let needed = 8 * length (recordWords s rs) in
-    both (logShort z rs) (outputShort room needed) (tested (ltb (z .log) (length (logWords rs))) 12 0 0 refl) (short room needed refl)
+log-kept : {row : List ℕ} (z : Lengths) (b : Book) → among 12 row ≡ true → Numbered row (logShort z b)
+log-kept z b e = tested (ltb (z .log) (length (logOf b))) 12 0 0 e
 
 abbrev pub AnswerNumbered : List ℕ → Answer → Type 0
 AnswerNumbered row (Answer.refused r) = among (r .number) row ≡ true
@@ -278,38 +255,45 @@ AnswerNumbered row (Answer.counted k) = Unit {0}
 AnswerNumbered row (Answer.entered ws) = Unit {0}
 AnswerNumbered row (Answer.saved bs) = Unit {0}
 
-answered : (o : Check) (h : History) (c : Call) → Numbered (refusalsOf c) o → AnswerNumbered (refusalsOf c) (answerUnless o h c)
-answered (some r) h c (Numbered.refuses k) = k
-answered none h (Call.start s) k = tt
-answered none h (Call.restore bs) k = tt
-answered none h (Call.reply r) k = tt
-answered none h (Call.takeBack j) k = tt
-answered none History.empty (Call.question room) k = tt
-answered none (History.fit s rs) (Call.question room) k = tt
-answered none History.empty (Call.report room) k = refl
-answered none (History.fit s rs) (Call.report room) k = tt
-answered none History.empty Call.replies k = tt
-answered none (History.fit s rs) Call.replies k = tt
-answered none History.empty (Call.entry i room) k = tt
-answered none (History.fit s rs) (Call.entry i room) k = tt
-answered none History.empty (Call.save room) k = tt
-answered none (History.fit s rs) (Call.save room) k = tt
+-- by the check and, where it passes, by the answer
+pub answered : {numbers : List ℕ} (c : Check) (a : Answer) → Numbered numbers c → AnswerNumbered numbers a → AnswerNumbered numbers (refusedBy c a)
+answered none a h k = k
+answered (some r) a (Numbered.refuses h) k = h
 
 pub restores : (r : Reading) → ReadNumbered r → AnswerNumbered recordRow (restoredAnswer r)
-restores (Reading.accepted s rs) h = tt
+restores (Reading.accepted b) h = tt
 restores (Reading.refused c) h = h
 restores (Reading.refusedAtEntry c) h = of-row (λ (i : ℕ). among i recordRow) entryRow (c .number) refl h
 
 answer-numbered : (z : Lengths) (h : History) (c : Call) → AnswerNumbered (refusalsOf c) (historyAnswer z h c)
-answer-numbered z h (Call.start s) = answered (refusal z h (Call.start s)) h (Call.start s) (call z h (Call.start s))
+answer-numbered z h (Call.start s) = answered (validate s then checkArea z s) Answer.done (opening z s) tt
 answer-numbered z h (Call.restore bs) = restores (readRecord z bs) (record-numbered z bs)
-answer-numbered z h (Call.reply r) = answered (refusal z h (Call.reply r)) h (Call.reply r) (call z h (Call.reply r))
-answer-numbered z h (Call.takeBack j) = answered (refusal z h (Call.takeBack j)) h (Call.takeBack j) (call z h (Call.takeBack j))
-answer-numbered z h (Call.question room) = answered (refusal z h (Call.question room)) h (Call.question room) (call z h (Call.question room))
-answer-numbered z h (Call.report room) = answered (refusal z h (Call.report room)) h (Call.report room) (call z h (Call.report room))
-answer-numbered z h Call.replies = answered (refusal z h Call.replies) h Call.replies (call z h Call.replies)
-answer-numbered z h (Call.entry k room) = answered (refusal z h (Call.entry k room)) h (Call.entry k room) (call z h (Call.entry k room))
-answer-numbered z h (Call.save room) = answered (refusal z h (Call.save room)) h (Call.save room) (call z h (Call.save room))
+answer-numbered z History.empty (Call.reply r) = refl
+answer-numbered z (History.fit b) (Call.reply r) =
+    let full = ltb (z .log) (length (logOf b) + length (entryWords r)) in
+    answered (checkReply z b r) Answer.done (both (checkDue (runOf b) r) (when full (refuse 12 0 0)) (due (runOf b) r) (tested full 12 0 0 refl)) tt
+answer-numbered z History.empty (Call.takeBack j) = answered (when (ltb 0 j) (refuse 16 0 0)) Answer.done (tested (ltb 0 j) 16 0 0 refl) tt
+answer-numbered z (History.fit b) (Call.takeBack j) =
+    let few = ltb (length (b .replies)) j in
+    answered _ Answer.done (both (when few (refuse 16 0 0)) (logShort z b) (tested few 16 0 0 refl) (log-kept z b refl)) tt
+answer-numbered z History.empty (Call.question room) = tt
+answer-numbered z (History.fit b) (Call.question room) =
+    answered (checkQuestion b room (question (runOf b))) (Answer.asked (question (runOf b))) (asks b room (question (runOf b))) tt
+answer-numbered z History.empty (Call.report room) = refl
+answer-numbered z (History.fit b) (Call.report room) =
+    let none = unreported (runOf b .phase) in
+    let n = dimension (b .setup) in
+    answered _ _ (both (when none (refuse 15 0 0)) (outputShort room n) (tested none 15 0 0 refl) (short room n refl)) tt
+answer-numbered z History.empty Call.replies = tt
+answer-numbered z (History.fit b) Call.replies = tt
+answer-numbered z History.empty (Call.entry k room) = tt
+answer-numbered z (History.fit b) (Call.entry k room) =
+    let needed = length (entryAt (b .replies) k) in
+    answered _ _ (both (logShort z b) (outputShort room needed) (log-kept z b refl) (short room needed refl)) tt
+answer-numbered z History.empty (Call.save room) = tt
+answer-numbered z (History.fit b) (Call.save room) =
+    let needed = 8 * length (recordWords b) in
+    answered _ _ (both (logShort z b) (outputShort room needed) (log-kept z b refl) (short room needed refl)) tt
 
 -- ---- the theorem
 

@@ -12,10 +12,10 @@ use lib.Ieee.{Float, nan, inf, fin, eq, lt, le, sub, neg, up, down}
 use lib.Ieee.Scale.{finite}
 use borrow.Author.Tests.{eq-eqb, ltb-true, ltb-false}
 use Rattle.definition.specs.Number.{plus, minus, over, totalLe, zero64, infinity}
-use Rattle.definition.specs.Vector.{foldTo, dot}
-use Rattle.definition.specs.Problem.{Bounds}
+use Rattle.definition.specs.Vector.{foldTo, dot, _andThen_}
+use Rattle.definition.specs.Problem.{Bounds, orElse}
 use Rattle.definition.specs.Compact.{Compact, product}
-use Rattle.definition.specs.Geometry.{Break, noBreak, inserted, breakTime, breaksOf, Path, Segment, ended, onward, pointOnPath, travelled, stopped, stopAll, passed, along, bySlope, byProducts, still, segment, walk, pathStart, generalizedCauchy}
+use Rattle.definition.specs.Geometry.{Break, noBreak, inserted, breakTime, breaksOf, Path, Segment, ended, onward, pointOnPath, travelled, stopped, stopAll, passed, along, bySlope, still, segment, walk, pathStart, generalizedCauchy}
 use Rattle.definition.specs.Values.{Each}
 use Rattle.definition.specs.Paths.{firstSegment, segmentAfter}
 use Rattle.definition.proofs.Tests.{by-test, holds}
@@ -137,16 +137,18 @@ module _ (n : ℕ) (b : Bounds) (x : List Float) (bs : List Break) (f : Each Fin
       by-test (Leads (p .event) bs) (not (finite slope && finite curvature && lt zero64 curvature)) (λ _. tt)
       (λ _. by-test (Leads (p .event) bs) (le zero64 slope) (λ _. tt) (λ _. leads-along (over (neg slope) curvature) k))
 
-  leads-products : (g : List Float) (bd bz : Option (List Float)) → T (finite (p .previous)) → Leads (p .event) bs (byProducts n b x g bs p bd bz)
-  leads-products g none bz k = tt
-  leads-products g (some bd) none k = tt
-  leads-products g (some bd) (some bz) k = leads-slope (plus (dot n g (p .direction)) (dot n bz (p .direction))) (dot n (p .direction) bd) k
+  leads-products : (slope : List Float → Float) (curvature : List Float → Float) (bd bz : Option (List Float)) → T (finite (p .previous))
+      → Leads (p .event) bs (orElse (bd andThen λ u. bz andThen λ v. some (bySlope n b x bs p (slope v) (curvature u))) (ended none))
+  leads-products slope curvature none bz k = tt
+  leads-products slope curvature (some bd) none k = tt
+  leads-products slope curvature (some bd) (some bz) k = leads-slope (slope bz) (curvature bd) k
 
   leads-on : (c : Compact) (g : List Float) → T (finite (p .previous)) → Leads (p .event) bs (segment n b c x g bs p)
   unfolding segment
   leads-on c g k =
+      let d = p .direction in
       by-test (Leads (p .event) bs) (still n (p .direction)) (λ _. tt)
-      (λ _. leads-products g (product n c (p .direction)) (product n c (p .displacement)) k)
+      (λ _. leads-products (λ v. plus (dot n g d) (dot n v d)) (λ u. dot n d u) (product n c d) (product n c (p .displacement)) k)
 
 -- ---- so the path ends, and a walk that may go so far gives its end
 

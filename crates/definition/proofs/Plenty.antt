@@ -1,127 +1,48 @@
 -- A record of at most 65,536 bytes never finds an area of 6,208 words or a log of 8,192 too short: it is read as into any larger ones, and refusals 11
 -- and 12 never come, neither of an input nor from the report program or the C entry. Assumes nothing.
-use Prim.Native.Nat.{ℕ, zero, suc, _+_, _-_, _*_, _≤_}
+use Prim.Native.Nat.{ℕ, _+_, _-_, _*_, _≤_}
 use native.Mathlib.Omega.{arith}
-use mathlib.Core.Path.{_≡_, refl, ap, ap₂, _∙_, subst}
+use mathlib.Core.Path.{_≡_, refl, ap, ap₂, subst}
 use mathlib.Core.Logic.{_≢_, _⊎_, inl, inr}
 use mathlib.Core.Bool.{Bool, true, false, false≢true, not, cond}
-use mathlib.Core.List.{List, [], _∷_}
-use mathlib.Core.Option.{Option, none, some}
+use mathlib.Core.List.{List, [], _∷_, _++_}
+use mathlib.Core.Option.{none, some}
 use lib.Dec.{eqb, ltb, leb, leb→le}
 use lib.ListN.{length, getD, drop, length-drop}
-use lib.Seq.{length-take-le}
 use lib.Ieee.{Float}
 use borrow.Author.Tests.{ltb-false, le-ltb}
 use Rattle.definition.specs.Problem.{Setup, Refusal, Check, refuse, when, _then_, validate, areaNeeded}
-use Rattle.definition.specs.Machine.{Reply, Machine, Phase, Report, checkDue, probePoint, questionIn, statusOf, unreported, report}
+use Rattle.definition.specs.Machine.{Machine, Phase, Report, probePoint, questionIn, statusOf, unreported, reportNow}
 use Rattle.definition.specs.Gradient.{probesAt}
-use Rattle.definition.specs.Driver.{begin, run}
-use Rattle.definition.specs.Log.{entryWords, logWords, valueEntry, gradientEntry, entryOf, Entries, admitDue, admit, nextEntry, readEntries, entriesOf}
+use Rattle.definition.specs.Log.{Entries, entriesOf}
+use Rattle.definition.specs.Book.{runOf}
 use Rattle.definition.specs.Record.{Lengths, Reading, plainRefusal, setupIn, setupLength, knownVersion, wordsOf, readingOf, checkArea, sameSums, malformed, checkWords, unlessRefused, readWords, framed, readTrailed, readRecord}
-use Rattle.definition.specs.History.{among}
-use Rattle.definition.specs.Programs.{plenty, mostBytes, readInput, Printed, printedOf, printed, Returned, returnPoint, returnFit, returnOf, returned}
+use Rattle.definition.specs.History.{setupRow, among}
+use Rattle.definition.specs.Programs.{plenty, mostBytes, inputArea, inputLog, readInput, Printed, printedOf, printed, Returned, returnPoint, returnFit, returnOf, returned}
 use Rattle.definition.proofs.Tests.{by-test, both-hold}
 use Rattle.definition.proofs.Bytes.{wordsOf-length}
-use Rattle.definition.proofs.Entries.{log-more, words-some}
+use Rattle.definition.proofs.Entries.{Unshort, after-alike}
 use Rattle.definition.proofs.Lengths.{area-bounded}
-use Rattle.definition.proofs.Numbered.{Numbered, wider, tested, both, setupRow, setup-numbered}
-
--- ---- the entries
-
--- an entry read has no more words than there were
-abbrev Within : ℕ → Option Reply → Type 0
-Within most none = Unit {0}
-Within most (some r) = length (entryWords r) ≤ most
-
-within-value : (ws : List ℕ) → Within (suc (length ws)) (valueEntry ws)
-within-value [] = tt
-within-value (v ∷ ws) = omega arith
-
-within-gradient : (n : ℕ) (ws : List ℕ) → Within (suc (length ws)) (gradientEntry n ws)
-within-gradient n ws =
-    by-test (Within (suc (length ws))) (ltb (length ws) n) (λ _. tt) (λ e.
-    omega (arith, length-take-le n ws (ltb-false (length ws) n e), ltb-false (length ws) n e))
-
-within-entry : (n k : ℕ) (ws : List ℕ) → Within (suc (length ws)) (entryOf n k ws)
-within-entry n k ws =
-    let P = Within (suc (length ws)) in
-    by-test P (eqb k 1) (λ _. within-value ws) (λ _.
-    by-test P (eqb k 2) (λ _. within-gradient n ws) (λ _.
-    by-test P (eqb k 3) (λ _. omega arith) (λ _.
-    by-test P (eqb k 4) (λ _. omega arith) (λ _.
-    by-test P (eqb k 5) (λ _. omega arith) (λ _.
-    by-test P (eqb k 6) (λ _. omega arith) (λ _. tt))))))
-
--- both rooms take the log and the words still to read, and what was refused was not refused for want of room
-module _ (room large : ℕ) where
-  abbrev Fits : Entries → Type 0
-  Fits (Entries.kept rs) = Unit {0}
-  Fits (Entries.refusedAt c) = c ≡ 17
-  Fits (Entries.going ws rs m) = (length (logWords rs) + length ws ≤ room) × (length (logWords rs) + length ws ≤ large)
-
-  abbrev Alike : Entries → Entries → Type 0
-  Alike a b = (a ≡ b) × Fits a
-
-  due-alike :
-      (ws : List ℕ) (rs : List Reply) (m : Machine) (r : Reply) (c : Check) → length (entryWords r) ≤ suc (length ws)
-      → length (logWords rs) + suc (length ws) ≤ room → length (logWords rs) + suc (length ws) ≤ large
-      → Alike (admitDue room ws rs m r c) (admitDue large ws rs m r c)
-  due-alike ws rs m r (some c) w h k = (refl, refl)
-  due-alike ws rs m r none w h k =
-      let size = length (logWords rs) + length (entryWords r) in
-      let one : 1 ≤ length (entryWords r) = words-some r in
-      let left = length-drop (length (entryWords r) - 1) ws in
-      rw (le-ltb room size (omega arith), le-ltb large size (omega arith)) (refl, (omega (arith, log-more r rs, left), omega (arith, log-more r rs, left)))
-
-  next-alike :
-      (ws : List ℕ) (rs : List Reply) (m : Machine) → length (logWords rs) + length ws ≤ room → length (logWords rs) + length ws ≤ large
-      → Alike (nextEntry room ws rs m) (nextEntry large ws rs m)
-  next-alike [] rs m h k = (refl, tt)
-  next-alike (w ∷ ws) rs m h k = go (entryOf (m .terms .n) w ws) (within-entry (m .terms .n) w ws)
-    where
-      go : (o : Option Reply) → Within (suc (length ws)) o → Alike (admit room ws rs m o) (admit large ws rs m o)
-      go none l = (refl, refl)
-      go (some r) l = due-alike ws rs m r (checkDue m r) l h k
-
-  entries-alike : (left : ℕ) (e : Entries) → Fits e → readEntries left room e ≡ readEntries left large e
-  unfolding readEntries
-  entries-alike zero (Entries.kept rs) h = refl
-  entries-alike zero (Entries.refusedAt c) h = refl
-  entries-alike zero (Entries.going ws rs m) h = refl
-  entries-alike (suc left) (Entries.kept rs) h = refl
-  entries-alike (suc left) (Entries.refusedAt c) h = refl
-  entries-alike (suc left) (Entries.going ws rs m) h =
-      let n = next-alike ws rs m (h .0) (h .1) in
-      entries-alike left (nextEntry room ws rs m) (n .1) ∙ ap (readEntries left large) (n .0)
-
-  entries-fit : (left : ℕ) (e : Entries) → Fits e → Fits (readEntries left room e)
-  unfolding readEntries
-  entries-fit zero (Entries.kept rs) h = tt
-  entries-fit zero (Entries.refusedAt c) h = h
-  entries-fit zero (Entries.going ws rs m) h = refl
-  entries-fit (suc left) (Entries.kept rs) h = tt
-  entries-fit (suc left) (Entries.refusedAt c) h = h
-  entries-fit (suc left) (Entries.going ws rs m) h = entries-fit left (nextEntry room ws rs m) (next-alike ws rs m (h .0) (h .1) .1)
+use Rattle.definition.proofs.Numbered.{Numbered, wider, tested, both, setup-numbered}
 
 -- ---- the record
 
 pub record Enough (z : Lengths) : Type 0 where
-  pub area : 6208 ≤ z .area
-  pub log : 8192 ≤ z .log
+  pub area : inputArea ≤ z .area
+  pub log : inputLog ≤ z .log
 
 -- the words that a trailer points back to
 abbrev body : List ℕ → List ℕ → List ℕ
 body bs t = wordsOf (getD t 3 0) (drop (length bs - 32 - 8 * getD t 3 0) bs)
 
-body-few : (bs t : List ℕ) → length bs ≤ mostBytes → framed (length bs) t ≡ true → length (body bs t) ≤ 8192
+body-few : (bs t : List ℕ) → length bs ≤ mostBytes → framed (length bs) t ≡ true → length (body bs t) ≤ inputLog
 body-few bs t h e =
     let k = both-hold (knownVersion (getD t 2 0)) (leb (8 * getD t 3 0) (length bs - 32)) e .1 in
     omega (arith, wordsOf-length (getD t 3 0) (drop (length bs - 32 - 8 * getD t 3 0) bs), leb→le (8 * getD t 3 0) (length bs - 32) k)
 
 module _ (z large : Lengths) (a : Enough z) (b : Enough large) where
-  rest-alike : (s : Setup) (ws : List ℕ) → length ws ≤ 8192 → entriesOf s (z .log) ws ≡ entriesOf s (large .log) ws
-  unfolding logWords
-  rest-alike s ws h = entries-alike (z .log) (large .log) (length ws + 1) (Entries.going ws [] (begin s)) (omega (arith, a .log), omega (arith, b .log))
+  rest-alike : (s : Setup) (ws : List ℕ) → length ws ≤ inputLog → entriesOf s (z .log) ws ≡ entriesOf s (large .log) ws
+  rest-alike s ws h = after-alike s (z .log) (large .log) ws (omega (arith, a .log)) (omega (arith, b .log)) (length ws + 1) .0
 
   area-alike : (s : Setup) → (validate s then checkArea z s) ≡ (validate s then checkArea large s)
   area-alike s = go (validate s) refl
@@ -132,7 +53,7 @@ module _ (z large : Lengths) (a : Enough z) (b : Enough large) where
           let k = area-bounded s e in
           rw (le-ltb (z .area) (areaNeeded s) (omega (arith, k, a .area)), le-ltb (large .area) (areaNeeded s) (omega (arith, k, b .area)))
 
-  words-alike : (ws : List ℕ) (p q : ℕ) → length ws ≤ 8192 → readWords z ws p q ≡ readWords large ws p q
+  words-alike : (ws : List ℕ) (p q : ℕ) → length ws ≤ inputLog → readWords z ws p q ≡ readWords large ws p q
   unfolding readWords checkWords
   words-alike ws p q h =
       let s = setupIn ws in
@@ -159,18 +80,18 @@ module _ (z large : Lengths) (a : Enough z) (b : Enough large) where
 
 -- ---- as into any larger ones
 
-pub read-plenty : (bs : List ℕ) → length bs ≤ mostBytes → readRecord (record { area = 6208; log = 8192 }) bs ≡ readRecord plenty bs
+pub read-plenty : (bs : List ℕ) → length bs ≤ mostBytes → readRecord (record { area = inputArea; log = inputLog }) bs ≡ readRecord plenty bs
 read-plenty bs h = read-alike _ plenty (record { area = omega arith; log = omega arith }) (record { area = omega arith; log = omega arith }) bs h
 
 -- ---- the refusals of an input
 
 -- the numbers ahead of the entries: a record's but for 11 and 12
 abbrev inputRow : List ℕ
-inputRow = 1 ∷ 2 ∷ 3 ∷ 4 ∷ 5 ∷ 6 ∷ 7 ∷ 8 ∷ 9 ∷ 10 ∷ 17 ∷ 18 ∷ []
+inputRow = setupRow ++ (17 ∷ 18 ∷ [])
 
 -- at an entry it is 17
 abbrev InputNumbered : Reading → Type 0
-InputNumbered (Reading.accepted s rs) = Unit {0}
+InputNumbered (Reading.accepted b) = Unit {0}
 InputNumbered (Reading.refused c) = among (c .number) inputRow ≡ true
 InputNumbered (Reading.refusedAtEntry c) = c .number ≡ 17
 
@@ -186,18 +107,17 @@ module _ (z : Lengths) (a : Enough z) where
       go (some r) e h = h
       go none e h = rw (le-ltb (z .area) (areaNeeded s) (omega (arith, area-bounded s e, a .area))) Numbered.passes
 
-  rest-enough : (s : Setup) (ws : List ℕ) → length ws ≤ 8192 → InputNumbered (readingOf s (entriesOf s (z .log) ws))
-  unfolding logWords
+  rest-enough : (s : Setup) (ws : List ℕ) → length ws ≤ inputLog → InputNumbered (readingOf s (entriesOf s (z .log) ws))
   rest-enough s ws h =
-      go (entriesOf s (z .log) ws)
-      (entries-fit (z .log) (z .log) (length ws + 1) (Entries.going ws [] (begin s)) (omega (arith, a .log), omega (arith, a .log)))
+      let fits : length ws ≤ z .log = omega (arith, a .log) in
+      go (entriesOf s (z .log) ws) (after-alike s (z .log) (z .log) ws fits fits (length ws + 1) .1)
     where
-      go : (e : Entries) → Fits (z .log) (z .log) e → InputNumbered (readingOf s e)
+      go : (e : Entries) → Unshort e → InputNumbered (readingOf s e)
       go (Entries.kept rs) h = tt
       go (Entries.refusedAt c) h = h
       go (Entries.going ws rs m) h = refl
 
-  words-enough : (ws : List ℕ) (p q : ℕ) → length ws ≤ 8192 → InputNumbered (readWords z ws p q)
+  words-enough : (ws : List ℕ) (p q : ℕ) → length ws ≤ inputLog → InputNumbered (readWords z ws p q)
   unfolding readWords checkWords
   words-enough ws p q h =
       let s = setupIn ws in
@@ -224,7 +144,7 @@ input-refusals bs =
 -- ---- never 11, never 12
 
 abbrev Roomy : Reading → Type 0
-Roomy (Reading.accepted s rs) = Unit {0}
+Roomy (Reading.accepted b) = Unit {0}
 Roomy (Reading.refused c) = (c .number ≢ 11) × (c .number ≢ 12)
 Roomy (Reading.refusedAtEntry c) = (c .number ≢ 11) × (c .number ≢ 12)
 
@@ -232,7 +152,7 @@ input-roomy : (bs : List ℕ) → Roomy (readInput bs)
 input-roomy bs = go (readInput bs) (input-refusals bs)
   where
     go : (d : Reading) → InputNumbered d → Roomy d
-    go (Reading.accepted s rs) h = tt
+    go (Reading.accepted b) h = tt
     go (Reading.refused c) h =
         (λ e. false≢true (subst (λ (k : ℕ). among k inputRow ≡ true) e h), λ e. false≢true (subst (λ (k : ℕ). among k inputRow ≡ true) e h))
     go (Reading.refusedAtEntry c) h = (λ e. omega arith, λ e. omega arith)
@@ -258,8 +178,8 @@ pub never-printed-short : (bs : List ℕ) → (printed bs ≢ Printed.refused 11
 never-printed-short bs = go (readInput bs) (input-roomy bs)
   where
     go : (d : Reading) → Roomy d → PrintsOther (printedOf d)
-    go (Reading.accepted s rs) h =
-        by-test PrintsOther (unreported (run s rs .phase)) (λ _. other-number 15 (λ e. omega arith, λ e. omega arith)) (λ _. lines-other (report (run s rs)))
+    go (Reading.accepted b) h =
+        by-test PrintsOther (unreported (runOf b .phase)) (λ _. other-number 15 (λ e. omega arith, λ e. omega arith)) (λ _. lines-other (reportNow (runOf b)))
     go (Reading.refused c) h = other-number (c .number) h
     go (Reading.refusedAtEntry c) h = other-number (c .number) h
 
@@ -285,6 +205,6 @@ pub never-returned-short : (room : ℕ) (bs : List ℕ) → (returned room bs .n
 never-returned-short room bs = go (readInput bs) (input-roomy bs)
   where
     go : (d : Reading) → Roomy d → ReturnsOther (returnOf room d)
-    go (Reading.accepted s rs) h = fit-other room (run s rs) (run s rs .phase)
+    go (Reading.accepted b) h = fit-other room (runOf b) (runOf b .phase)
     go (Reading.refused c) h = (λ e. h .0 (omega arith), λ e. h .1 (omega arith))
     go (Reading.refusedAtEntry c) h = (λ e. h .0 (omega arith), λ e. h .1 (omega arith))

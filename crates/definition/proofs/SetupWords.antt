@@ -13,7 +13,7 @@ use lib.Ieee.Bits.{is-false, ofBits-toBits, toBits-ofBits, toBits-lt}
 use lib.Ieee.Scale.{finite}
 use borrow.Author.Tests.{ne-eqb}
 use Rattle.definition.specs.Number.{toFloat, toWord}
-use Rattle.definition.specs.Problem.{Setup, Bounds, Scheme, mostBudget, mostPairs, dimension, orElse}
+use Rattle.definition.specs.Problem.{Setup, Bounds, Scheme, mostBudget, mostCoordinates, mostPairs, dimension, orElse}
 use Rattle.definition.specs.Record.{absent, optionalFloat, boxFlag, schemeFlag, boundWords, shapeWord, setupWords, floatGiven, countGiven, nIn, maxcorIn, setupLength, floatsAt, boundsIn, schemeIn, setupIn, wordSize}
 use Rattle.definition.specs.Replies.{Accepted}
 use Rattle.definition.specs.Values.{Each, Given, Words, Binary64, BoxFloats, SetupFloats}
@@ -180,7 +180,7 @@ module _ (s : Setup) (a : Accepted s) where
       let h = shape-is s (accepted-passed s a) in
       length-in (s .bounds) (shapeWord s) (dimension s) (h .n-in) (h .b-in) ∙ sym setup-length
 
-  pub setup-most : length (setupWords s) ≤ 199
+  pub setup-most : length (setupWords s) ≤ 7 + 3 * mostCoordinates
   setup-most = omega (arith, setup-length, box-most (s .bounds) (dimension s), accepted-passed s a .size .1)
 
   pub setup-words-fit : SetupFloats s → Words (setupWords s)

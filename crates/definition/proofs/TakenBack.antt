@@ -10,40 +10,45 @@ use borrow.Author.Tests.{le-ltb}
 use Rattle.definition.specs.Problem.{Setup, Check}
 use Rattle.definition.specs.Machine.{Reply}
 use Rattle.definition.specs.Log.{entryWords, logWords}
+use Rattle.definition.specs.Book.{Book, book, withReply, struck, logOf}
 use Rattle.definition.specs.Record.{Lengths}
 use Rattle.definition.specs.Replies.{Due}
-use Rattle.definition.specs.History.{Call, Answer, History, checkReply, refusal, leftUnless, answerUnless, historyStep, historyAnswer, historyAfter, historyAnswers}
+use Rattle.definition.specs.History.{Call, Answer, History, checkReply, callRow, leftBy, refusedBy, historyStep, historyAnswer, historyAfter, historyAnswers}
 use Rattle.definition.specs.Sound.{Sound}
 use Rattle.definition.proofs.Entries.{log-more}
 use Rattle.definition.proofs.Histories.{due-struck, log-struck, reply-fits, history-sound, after-append}
 
 -- ---- replies given and taken back
 
+-- the book with these replies, the last of them given first
+abbrev withReplies : List Reply → Book → Book
+withReplies qs b = book (b .setup) (reverseAux qs (b .replies))
+
 -- an accepted reply
-unless-done : (o : Check) (h : History) (c : Call) → answerUnless o h c ≡ Answer.done → o ≡ none
-unless-done none h c e = refl
-unless-done (some r) h c e = cc
+by-done : (c : Check) (a : Answer) → refusedBy c a ≡ Answer.done → c ≡ none
+by-done none a e = refl
+by-done (some r) a e = cc
 
-module _ (z : Lengths) (s : Setup) where
-  abbrev Room : List Reply → Type 0
-  Room rs = length (logWords rs) ≤ z .log
+module _ (z : Lengths) where
+  abbrev Room : Book → Type 0
+  Room b = length (logOf b) ≤ z .log
 
-  replied : (rs : List Reply) (q : Reply) → historyAnswer z (History.fit s rs) (Call.reply q) ≡ Answer.done
-      → (historyStep z (History.fit s rs) (Call.reply q) ≡ History.fit s (q ∷ rs)) × Room (q ∷ rs)
-  replied rs q e =
-      let ok = unless-done (checkReply z s rs q) (History.fit s rs) (Call.reply q) e in
-      (ap (λ (o : Check). leftUnless o (History.fit s rs) (Call.reply q)) ok, reply-fits z s rs q ok .1)
+  replied : (b : Book) (q : Reply) → historyAnswer z (History.fit b) (Call.reply q) ≡ Answer.done
+      → (historyStep z (History.fit b) (Call.reply q) ≡ History.fit (withReply q b)) × Room (withReply q b)
+  replied b q e =
+      let ok = by-done (checkReply z b q) Answer.done e in
+      (ap (λ (c : Check). leftBy c (History.fit b) (History.fit (withReply q b))) ok, reply-fits z b q ok .1)
 
-  all-replied : (qs rs : List Reply) (h : History) → h ≡ History.fit s rs → Room rs → historyAnswers z h (map Call.reply qs) ≡ map (λ q. Answer.done) qs
-      → (historyAfter z h (map Call.reply qs) ≡ History.fit s (reverseAux qs rs)) × Room (reverseAux qs rs)
+  all-replied : (qs : List Reply) (b : Book) (h : History) → h ≡ History.fit b → Room b → historyAnswers z h (map Call.reply qs) ≡ map (λ q. Answer.done) qs
+      → (historyAfter z h (map Call.reply qs) ≡ History.fit (withReplies qs b)) × Room (withReplies qs b)
   unfolding historyAfter historyAnswers
-  all-replied [] rs h same room e = (same, room)
-  all-replied (q ∷ qs) rs h same room e =
-      let p = replied rs q (ap (λ (g : History). historyAnswer z g (Call.reply q)) (sym same) ∙ (cc)) in
-      all-replied qs (q ∷ rs) (historyStep z h (Call.reply q)) (ap (λ (g : History). historyStep z g (Call.reply q)) same ∙ p .0) (p .1) (cc)
+  all-replied [] b h same room e = (same, room)
+  all-replied (q ∷ qs) b h same room e =
+      let p = replied b q (ap (λ (g : History). historyAnswer z g (Call.reply q)) (sym same) ∙ (cc)) in
+      all-replied qs (withReply q b) (historyStep z h (Call.reply q)) (ap (λ (g : History). historyStep z g (Call.reply q)) same ∙ p .0) (p .1) (cc)
 
-  struck : (rs : List Reply) (j : ℕ) → Room rs → j ≤ length rs → refusal z (History.fit s rs) (Call.takeBack j) ≡ none
-  struck rs j room h = rw (le-ltb (length rs) j h, le-ltb (z .log) (length (logWords rs)) room)
+  back-passes : (b : Book) (j : ℕ) → Room b → j ≤ length (b .replies) → callRow z (History.fit b) (Call.takeBack j) .check ≡ none
+  back-passes b j room h = rw (le-ltb (length (b .replies)) j h, le-ltb (z .log) (length (logOf b)) room)
 
 drop-reversed : (qs rs : List Reply) → drop (length qs) (reverseAux qs rs) ≡ rs
 drop-reversed qs rs = ap (drop (length qs)) (reverseAux-eq qs rs) ∙ drop-at (reverse qs) rs (length qs) (length-reverse qs)
@@ -54,21 +59,22 @@ pub taken-back : (z : Lengths) (h : History) (qs : List Reply) → historyAnswer
 unfolding historyAfter historyAnswers
 taken-back z History.empty [] e = refl
 taken-back z History.empty (q ∷ qs) e = cc
-taken-back z (History.fit s rs) [] e = go (refusal z (History.fit s rs) (Call.takeBack 0))
+taken-back z (History.fit b) [] e = go (callRow z (History.fit b) (Call.takeBack 0) .check)
   where
-    go : (o : Check) → leftUnless o (History.fit s rs) (Call.takeBack 0) ≡ History.fit s rs
+    go : (c : Check) → leftBy c (History.fit b) (History.fit (struck 0 b)) ≡ History.fit b
     go none = refl
     go (some r) = refl
-taken-back z (History.fit s rs) (q ∷ qs) e =
-    let h = History.fit s rs in
+taken-back z (History.fit b) (q ∷ qs) e =
+    let h = History.fit b in
     let j = suc (length qs) in
-    let p = replied z s rs q (cc) in
-    let k = all-replied z s qs (q ∷ rs) (historyStep z h (Call.reply q)) (p .0) (p .1) (cc) in
-    let given = reverseAux qs (q ∷ rs) in
+    let p = replied z b q (cc) in
+    let k = all-replied z qs (withReply q b) (historyStep z h (Call.reply q)) (p .0) (p .1) (cc) in
+    let given = withReplies qs (withReply q b) in
+    let passes = back-passes z given j (k .1) (omega (arith, length-reverseAux qs (q ∷ b .replies))) in
     after-append z (historyStep z h (Call.reply q)) (map Call.reply qs) (Call.takeBack j ∷ [])
     ∙ ap (λ (g : History). historyStep z g (Call.takeBack j)) (k .0)
-    ∙ ap (λ (o : Check). leftUnless o (History.fit s given) (Call.takeBack j)) (struck z s given j (k .1) (omega (arith, length-reverseAux qs (q ∷ rs))))
-    ∙ ap (History.fit s) (drop-reversed (q ∷ qs) rs)
+    ∙ ap (λ (c : Check). leftBy c (History.fit given) (History.fit (struck j given))) passes
+    ∙ ap (λ (rs : List Reply). History.fit (book (b .setup) rs)) (drop-reversed (q ∷ qs) (b .replies))
 
 -- ---- replies taken back and given again
 
@@ -84,40 +90,49 @@ again-step z h c k cs g step answer next = record {
   answers = cc (answer, ap (λ (x : History). historyAnswers z x cs) step, next .answers);
 }
 
-module _ (z : Lengths) (s : Setup) where
-  reply-again : (rs : List Reply) (q : Reply) → Due s (q ∷ rs) → Room z s (q ∷ rs) → checkReply z s rs q ≡ none
-  reply-again rs q d room = rw (d .0, le-ltb (z .log) (length (logWords rs) + length (entryWords q)) (omega (arith, log-more q rs)))
+module _ (z : Lengths) where
+  reply-again : (b : Book) (q : Reply) → Due (b .setup) (q ∷ b .replies) → Room z (withReply q b) → checkReply z b q ≡ none
+  reply-again b q d room = rw (d .0, le-ltb (z .log) (length (logOf b) + length (entryWords q)) (omega (arith, log-more q (b .replies))))
 
-  all-again : (qs rs : List Reply) → Due s (reverseAux qs rs) → Room z s (reverseAux qs rs) → Again z (History.fit s rs) (map Call.reply qs) (History.fit s (reverseAux qs rs))
+  all-again : (qs : List Reply) (b : Book) → Due (b .setup) (withReplies qs b .replies) → Room z (withReplies qs b)
+      → Again z (History.fit b) (map Call.reply qs) (History.fit (withReplies qs b))
   unfolding historyAfter historyAnswers
-  all-again [] rs d room = record { history = refl; answers = refl }
-  all-again (q ∷ qs) rs d room =
-      let here = drop-reversed qs (q ∷ rs) in
-      let due = subst (Due s) here (due-struck s (length qs) (reverseAux qs (q ∷ rs)) d) in
-      let fits : Room z s (q ∷ rs) = subst (Room z s) here (omega (arith, log-struck (length qs) (reverseAux qs (q ∷ rs)))) in
-      let ok = reply-again rs q due fits in
-      again-step z (History.fit s rs) (Call.reply q) (History.fit s (q ∷ rs)) (map Call.reply qs) (History.fit s (reverseAux qs (q ∷ rs)))
-      (ap (λ (o : Check). leftUnless o (History.fit s rs) (Call.reply q)) ok)
-      (ap (λ (o : Check). answerUnless o (History.fit s rs) (Call.reply q)) ok)
-      (all-again qs (q ∷ rs) d room)
+  all-again [] b d room = record { history = refl; answers = refl }
+  all-again (q ∷ qs) b d room =
+      let next = withReply q b in
+      let given = withReplies qs next in
+      let here = drop-reversed qs (next .replies) in
+      let due = subst (Due (b .setup)) here (due-struck (b .setup) (length qs) (given .replies) d) in
+      let shorter : Room z (struck (length qs) given) = omega (arith, log-struck (length qs) (given .replies)) in
+      let fits : Room z next = subst (λ (rs : List Reply). Room z (book (b .setup) rs)) here shorter in
+      let ok = reply-again b q due fits in
+      again-step z (History.fit b) (Call.reply q) (History.fit next) (map Call.reply qs) (History.fit given)
+      (ap (λ (c : Check). leftBy c (History.fit b) (History.fit next)) ok)
+      (ap (λ (c : Check). refusedBy c Answer.done) ok)
+      (all-again qs next d room)
 
   -- the last j of a sound fit, taken back and given again in their order
-  again : (rs : List Reply) (j : ℕ) → Sound z s rs → j ≤ length rs → Again z (History.fit s rs) (Call.takeBack j ∷ map Call.reply (reverse (take j rs))) (History.fit s rs)
-  again rs j h l =
+  again : (b : Book) (j : ℕ) → Sound z b → j ≤ length (b .replies)
+      → Again z (History.fit b) (Call.takeBack j ∷ map Call.reply (reverse (take j (b .replies)))) (History.fit b)
+  again b j h l =
+      let rs = b .replies in
       let qs = reverse (take j rs) in
       let same : reverseAux qs (drop j rs) ≡ rs
       = reverseAux-eq qs (drop j rs) ∙ ap (λ (x : List Reply). x ++ drop j rs) (reverse-reverse (take j rs)) ∙ take-append-drop j rs in
-      let ok = struck z s rs j (h .log) l in
-      again-step z (History.fit s rs) (Call.takeBack j) (History.fit s (drop j rs)) (map Call.reply qs) (History.fit s rs)
-      (ap (λ (o : Check). leftUnless o (History.fit s rs) (Call.takeBack j)) ok)
-      (ap (λ (o : Check). answerUnless o (History.fit s rs) (Call.takeBack j)) ok)
-      (subst (λ (x : List Reply). Again z (History.fit s (drop j rs)) (map Call.reply qs) (History.fit s x)) same
-      (all-again qs (drop j rs) (subst (Due s) (sym same) (h .due)) (subst (Room z s) (sym same) (h .log))))
+      let ok = back-passes z b j (h .log) l in
+      let room : Room z (withReplies qs (struck j b)) = subst (λ (x : List Reply). Room z (book (b .setup) x)) (sym same) (h .log) in
+      again-step z (History.fit b) (Call.takeBack j) (History.fit (struck j b)) (map Call.reply qs) (History.fit b)
+      (ap (λ (c : Check). leftBy c (History.fit b) (History.fit (struck j b))) ok)
+      (ap (λ (c : Check). refusedBy c Answer.done) ok)
+      (subst (λ (x : List Reply). Again z (History.fit (struck j b)) (map Call.reply qs) (History.fit (book (b .setup) x))) same
+      (all-again qs (struck j b) (subst (Due (b .setup)) (sym same) (h .due)) room))
 
-module _ (z : Lengths) (cs : List Call) (s : Setup) (rs : List Reply) (e : historyAfter z History.empty cs ≡ History.fit s rs) (j : ℕ) (h : j ≤ length rs) where
-  pub replied-again : historyAfter z (History.fit s rs) (Call.takeBack j ∷ map Call.reply (reverse (take j rs))) ≡ History.fit s rs
-  replied-again = again z s rs j (history-sound z cs s rs e) h .history
+module _ (z : Lengths) (cs : List Call) (b : Book) (e : historyAfter z History.empty cs ≡ History.fit b) (j : ℕ) (h : j ≤ length (b .replies)) where
+  abbrev pub again-calls : List Call
+  again-calls = Call.takeBack j ∷ map Call.reply (reverse (take j (b .replies)))
 
-  pub replied-again-accepted :
-      historyAnswers z (History.fit s rs) (Call.takeBack j ∷ map Call.reply (reverse (take j rs))) ≡ map (λ c. Answer.done) (Call.takeBack j ∷ map Call.reply (reverse (take j rs)))
-  replied-again-accepted = again z s rs j (history-sound z cs s rs e) h .answers
+  pub replied-again : historyAfter z (History.fit b) again-calls ≡ History.fit b
+  replied-again = again z b j (history-sound z cs b e) h .history
+
+  pub replied-again-accepted : historyAnswers z (History.fit b) again-calls ≡ map (λ c. Answer.done) again-calls
+  replied-again-accepted = again z b j (history-sound z cs b e) h .answers

@@ -1,15 +1,17 @@
 -- `Compact`: the correction pairs, oldest first, and the matrix B = theta I - W M W' that they stand for.
+-- `oldest` and `padded` are storage, here because document 01 has it: m places for the pairs "with a number for the oldest", and the middle
+-- matrix "an array of 32 rows of 32". No number of the fit rests on them.
 use Prim.Native.Nat.{ℕ, _+_, _-_, _*_}
 use mathlib.Core.Bool.{Bool, cond, _&&_}
 use mathlib.Core.List.{List, [], _∷_, _++_}
-use mathlib.Core.Option.{Option, none, some}
+use mathlib.Core.Option.{Option, some}
 use lib.Dec.{eqb, ltb}
 use lib.ListN.{length, getD, drop, replicate}
 use lib.Ieee as Ieee
 use lib.Ieee.{Float}
 use lib.Ieee.Scale.{finite}
 use Rattle.definition.specs.Number.{minus, times, over, zero64, one64, epsilon}
-use Rattle.definition.specs.Vector.{foldTo, tab, word, sum, dot, finiteOnly}
+use Rattle.definition.specs.Vector.{foldTo, tab, word, sum, dot, _andThen_, finiteOnly}
 use Rattle.definition.specs.Solve.{Matrix, solve}
 
 -- The Rust keeps s·y beside the pair; here it is `dot` again, the same operations on the same words.
@@ -17,7 +19,7 @@ pub record Pair : Type 0 where
   pub s : List Float
   pub y : List Float
 
--- The pairs are held in maxcor places, with a number for the place of the oldest (document 01): no number of the fit rests on it.
+-- `oldest`: the place of the oldest pair
 pub record Compact : Type 0 where
   pub pairs : List Pair
   pub theta : Float
@@ -85,7 +87,7 @@ blockEntry n c i j =
     (cond (ltb j m) (diagonalEntry n ps i j) (lowerEntry n ps (j - m) i))
     (cond (ltb j m) (lowerEntry n ps (i - m) j) (times (c .theta) (dot n (pairOf ps (i - m) .s) (pairOf ps (j - m) .s))))
 
--- The middle matrix is an array of 32 rows of 32 (document 01): f 0, .. f (size - 1), and z up to 32 places.
+-- f 0, .. f (size - 1), and z up to 32 places
 unfoldable pub padded : {A : Type 0} → A → ℕ → (ℕ → A) → List A
 padded z size f = tab size f ++ replicate (32 - size) z
 
@@ -115,9 +117,5 @@ weights n c v = cond (eqb (count c) 0) (some zeroRow) (solve (2 * count c) (bloc
 unfoldable pub lessWord : Compact → List Float → List Float → ℕ → Float
 lessWord c z v i = foldTo (2 * count c) (λ k r. minus r (times (word z k) (columnWord c k i))) (times (c .theta) (word v i))
 
-abbrev pub lessColumns : ℕ → Compact → List Float → Option (List Float) → Option (List Float)
-lessColumns n c v none = none
-lessColumns n c v (some z) = finiteOnly n (tab n (lessWord c z v))
-
 unfoldable pub product : ℕ → Compact → List Float → Option (List Float)
-product n c v = lessColumns n c v (weights n c v)
+product n c v = weights n c v andThen λ z. finiteOnly n (tab n (lessWord c z v))

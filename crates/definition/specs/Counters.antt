@@ -19,31 +19,30 @@ statusNumber Termination.nonfinite = 6
 statusNumber Termination.lineSearchFailed = 7
 statusNumber Termination.objectiveFailed = 8
 
--- iterations, values and gradients charged; `drawn`, added, counts the values that cost a drawing
+-- iterations, values and gradients charged
 pub record Counters : Type 0 where
   pub nit : ℕ
   pub nfev : ℕ
   pub njev : ℕ
-  pub drawn : ℕ
 
 -- the first value question is charged on opening
 abbrev pub firstCounters : Counters
-firstCounters = record { nit = 0; nfev = 1; njev = 0; drawn = 1 }
+firstCounters = record { nit = 0; nfev = 1; njev = 0 }
 
 -- a value question is charged when it is raised, and only while the budget lasts
 abbrev pub valueLeft : Limits → Counters → Bool
 valueLeft l k = ltb (k .nfev) (l .maxfev)
 
 abbrev pub chargeValue : Counters → Counters
-chargeValue k = record { nit = k .nit; nfev = k .nfev + 1; njev = k .njev; drawn = k .drawn + 1 }
+chargeValue k = record { nit = k .nit; nfev = k .nfev + 1; njev = k .njev }
 
 -- a gradient is charged when it is supplied, or when a differenced one is complete
 abbrev pub chargeGradient : Counters → Counters
-chargeGradient k = record { nit = k .nit; nfev = k .nfev; njev = k .njev + 1; drawn = k .drawn }
+chargeGradient k = record { nit = k .nit; nfev = k .nfev; njev = k .njev + 1 }
 
 -- an iteration is charged before its notice, and its budget is tested after it
 abbrev pub chargeIteration : Counters → Counters
-chargeIteration k = record { nit = k .nit + 1; nfev = k .nfev; njev = k .njev; drawn = k .drawn }
+chargeIteration k = record { nit = k .nit + 1; nfev = k .nfev; njev = k .njev }
 
 abbrev pub iterationsSpent : Limits → Counters → Bool
 iterationsSpent l k = leb (l .maxiter) (k .nit)

@@ -10,14 +10,14 @@ use lib.Ieee as Ieee
 use lib.Ieee.{Float}
 use lib.Ieee.Scale.{finite}
 use Rattle.definition.specs.Number.{minus, times, abs, min, max, toFloat, zero64, one64}
-use Rattle.definition.specs.Vector.{foldTo, word, zeros, dot, allFinite, difference}
+use Rattle.definition.specs.Vector.{foldTo, word, zeros, dot, allFinite, difference, _andThen_}
 use Rattle.definition.specs.Problem.{Setup, Terms, Bounds, dimension, termsOf, limitsOf, projectedStart}
 use Rattle.definition.specs.Compact.{Compact, noPairs, count, update}
 use Rattle.definition.specs.Geometry.{generalizedCauchy, primalMinimize}
 use Rattle.definition.specs.Counters.{Termination, firstCounters, valueLeft, iterationsSpent, chargeValue, chargeGradient, chargeIteration}
 use Rattle.definition.specs.Gradient.{Probes, probesAt, bothQuotient, rightQuotient, leftQuotient}
 use Rattle.definition.specs.Search.{Search, beginSearch, trialPoint, accepts, afterTrial}
-use Rattle.definition.specs.Machine.{Reply, State, Place, Side, Phase, Machine, state, inPhase, counting, holding, trying, withCompact, heading, searching, withRight, ending}
+use Rattle.definition.specs.Machine.{Reply, replyKind, broughtWords, firstWord, isValue, isFailure, State, Place, Side, Phase, Machine, state, made, inPhase, counting, holding, trying, withCompact, heading, searching, withRight, ending}
 
 -- a value question, unless the budget is spent
 unfoldable pub askValue : Phase → Machine → Machine
@@ -67,16 +67,11 @@ pub record Ends : Type 0 where
   pub cauchy : List Float
   pub target : List Float
 
-abbrev pub bothEnds : List Float → Option (List Float) → Option Ends
-bothEnds p none = none
-bothEnds p (some t) = some (record { cauchy = p; target = t })
-
-abbrev pub endsFrom : Terms → Compact → State → Option (List Float) → Option Ends
-endsFrom t c h none = none
-endsFrom t c h (some p) = bothEnds p (primalMinimize (t .n) (t .bounds) c (h .x) (h .g) p)
+abbrev pub endsFrom : Terms → Compact → State → List Float → Option Ends
+endsFrom t c h p = primalMinimize (t .n) (t .bounds) c (h .x) (h .g) p andThen λ q. some (record { cauchy = p; target = q })
 
 unfoldable pub endsOf : Terms → Compact → State → Option Ends
-endsOf t c h = endsFrom t c h (generalizedCauchy (t .n) (t .bounds) c (h .x) (h .g))
+endsOf t c h = generalizedCauchy (t .n) (t .bounds) c (h .x) (h .g) andThen endsFrom t c h
 
 -- the target, unless it lies uphill
 abbrev pub chosenEnd : ℕ → State → Ends → List Float
@@ -117,19 +112,9 @@ learn m =
 
 -- the driver moves to the trial and gives notice
 unfoldable pub move : Machine → Machine
-move m = record {
-  terms = m .terms;
-  limits = m .limits;
-  held = m .trial;
-  compact = m .compact;
-  trial = m .trial;
-  direction = m .direction;
-  search = m .search;
-  rightValue = m .rightValue;
-  before = m .held .f;
-  counters = chargeIteration (m .counters);
-  phase = Phase.notice;
-}
+move m =
+    made (m .terms) (m .limits) (m .trial) (m .compact) (m .trial) (m .direction) (m .search) (m .rightValue) (m .held .f)
+    (chargeIteration (m .counters)) Phase.notice
 
 unfoldable pub judgeTrial : Machine → Machine
 judgeTrial m =
@@ -209,32 +194,20 @@ onGoOn m =
     (cond (decreaseSmall m) (ending Termination.ftol m)
     (iterate m)))
 
--- the reply, where its kind is due; a reply that is not moves nothing
+-- a failure ends the fit; a reply that is not due moves nothing
+abbrev pub orFailure : Reply → Machine → Machine
+orFailure r m = cond (isFailure r) (ending Termination.objectiveFailed m) m
+
+-- the reply, where its kind is due
 abbrev pub answerIn : Phase → Machine → Reply → Machine
-answerIn (Phase.value w) m (Reply.value v) = onValue w (toFloat v) m
-answerIn (Phase.value w) m (Reply.gradient ws) = m
-answerIn (Phase.value w) m Reply.notSupplied = m
-answerIn (Phase.value w) m Reply.goOn = m
-answerIn (Phase.value w) m Reply.stop = m
-answerIn (Phase.value w) m Reply.failure = ending Termination.objectiveFailed m
-answerIn (Phase.gradient w) m (Reply.value v) = m
-answerIn (Phase.gradient w) m (Reply.gradient ws) = onGradient w (map toFloat ws) m
-answerIn (Phase.gradient w) m Reply.notSupplied = onNotSupplied w m
-answerIn (Phase.gradient w) m Reply.goOn = m
-answerIn (Phase.gradient w) m Reply.stop = m
-answerIn (Phase.gradient w) m Reply.failure = ending Termination.objectiveFailed m
-answerIn (Phase.probe w i side) m (Reply.value v) = onProbe w i side (toFloat v) m
-answerIn (Phase.probe w i side) m (Reply.gradient ws) = m
-answerIn (Phase.probe w i side) m Reply.notSupplied = m
-answerIn (Phase.probe w i side) m Reply.goOn = m
-answerIn (Phase.probe w i side) m Reply.stop = m
-answerIn (Phase.probe w i side) m Reply.failure = ending Termination.objectiveFailed m
-answerIn Phase.notice m (Reply.value v) = m
-answerIn Phase.notice m (Reply.gradient ws) = m
-answerIn Phase.notice m Reply.notSupplied = m
-answerIn Phase.notice m Reply.goOn = onGoOn m
-answerIn Phase.notice m Reply.stop = ending Termination.cancelled m
-answerIn Phase.notice m Reply.failure = ending Termination.objectiveFailed m
+answerIn (Phase.value w) m r = cond (isValue r) (onValue w (toFloat (firstWord r)) m) (orFailure r m)
+answerIn (Phase.gradient w) m r =
+    cond (eqb (replyKind r) 2) (onGradient w (map toFloat (broughtWords r)) m)
+    (cond (eqb (replyKind r) 3) (onNotSupplied w m) (orFailure r m))
+answerIn (Phase.probe w i side) m r = cond (isValue r) (onProbe w i side (toFloat (firstWord r)) m) (orFailure r m)
+answerIn Phase.notice m r =
+    cond (eqb (replyKind r) 4) (onGoOn m)
+    (cond (eqb (replyKind r) 5) (ending Termination.cancelled m) (orFailure r m))
 answerIn (Phase.ended t) m r = m
 
 abbrev pub answer : Machine → Reply → Machine
@@ -245,19 +218,9 @@ noSearch = record { alpha = zero64; low = zero64; high = none; slope0 = zero64; 
 
 -- The first question is the value at the clipped start. No report shows the value 0 that stands until it is replied.
 unfoldable pub begin : Setup → Machine
-begin s = record {
-  terms = termsOf s;
-  limits = limitsOf s;
-  held = state (projectedStart s) zero64 (zeros (dimension s));
-  compact = noPairs;
-  trial = state (projectedStart s) zero64 (zeros (dimension s));
-  direction = zeros (dimension s);
-  search = noSearch;
-  rightValue = zero64;
-  before = zero64;
-  counters = firstCounters;
-  phase = Phase.value Place.start;
-}
+begin s =
+    let first = state (projectedStart s) zero64 (zeros (dimension s)) in
+    made (termsOf s) (limitsOf s) first noPairs first (zeros (dimension s)) noSearch zero64 zero64 firstCounters (Phase.value Place.start)
 
 -- the machine after the replies, newest first
 unfoldable pub run : Setup → List Reply → Machine

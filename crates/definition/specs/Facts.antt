@@ -1,8 +1,9 @@
 -- The words of the theorems on a fit, for an accepted setup and replies that were due. Lists of replies stand newest first.
 use Prim.Native.Nat.{ℕ, zero, suc, _+_, _-_, _≤_, _<_}
 use mathlib.Core.Path.{_≡_}
-use mathlib.Core.Bool.{Bool, true, false, cond, _&&_}
+use mathlib.Core.Bool.{Bool, true, false, not, cond, _&&_, _||_}
 use mathlib.Core.List.{List, [], _∷_}
+use lib.Dec.{eqb}
 use lib.ListN.{length}
 use lib.Ieee.{Float}
 use lib.Ieee.Scale.{finite}
@@ -10,24 +11,15 @@ use Rattle.definition.specs.Number.{toFloat}
 use Rattle.definition.specs.Vector.{allFinite}
 use Rattle.definition.specs.Problem.{Setup, Terms, dimension, maxcorOf, boundsOf, limitsOf, mostCoordinates, mostPairs, mostBudget}
 use Rattle.definition.specs.Compact.{Pair}
-use Rattle.definition.specs.Counters.{Termination}
+use Rattle.definition.specs.Counters.{Termination, statusNumber}
 use Rattle.definition.specs.Gradient.{Probes, probesAt}
 use Rattle.definition.specs.Search.{searchTrials}
-use Rattle.definition.specs.Machine.{Reply, State, Side, Phase, Machine}
+use Rattle.definition.specs.Machine.{Reply, State, Side, Phase, Machine, replyKind, firstWord, isValue, isGradient, isNotice, isFailure}
 use Rattle.definition.specs.Driver.{run, gradientSmall, decreaseSmall}
-use Rattle.definition.specs.Replies.{isValue, isNotice, isFailure, countOf, openOf}
+use Rattle.definition.specs.Replies.{countOf, openOf}
 use Rattle.definition.specs.Values.{Each}
 
 -- ---- counts
-
--- a reply to a gradient question
-abbrev pub isGradient : Reply → Bool
-isGradient (Reply.value v) = false
-isGradient (Reply.gradient ws) = true
-isGradient Reply.notSupplied = true
-isGradient Reply.goOn = false
-isGradient Reply.stop = false
-isGradient Reply.failure = false
 
 -- the failures that came in place of a reply to a question of this kind
 unfoldable pub failedOf : ℕ → Setup → List Reply → ℕ
@@ -63,14 +55,12 @@ lastAsked m (Phase.probe w i side) =
 lastAsked m Phase.notice = false
 lastAsked m (Phase.ended t) = false
 
--- the reply, given to the machine m in its phase, completes a gradient
+-- the reply, given to the machine m in its phase, completes a gradient:
+-- a finite value at the last probe, a gradient, or not supplied where nothing is probed
 abbrev pub completesIn : Machine → Phase → Reply → Bool
-completesIn m p (Reply.value v) = finite (toFloat v) && lastAsked m p
-completesIn m p (Reply.gradient ws) = true
-completesIn m p Reply.notSupplied = unprobedFrom (m .terms .n) (m .terms) (m .trial .x) 0
-completesIn m p Reply.goOn = false
-completesIn m p Reply.stop = false
-completesIn m p Reply.failure = false
+completesIn m p r =
+    cond (isValue r) (finite (toFloat (firstWord r)) && lastAsked m p)
+    (cond (eqb (replyKind r) 3) (unprobedFrom (m .terms .n) (m .terms) (m .trial .x) 0) (eqb (replyKind r) 2))
 
 abbrev pub completesGradient : Machine → Reply → Bool
 completesGradient m r = completesIn m (m .phase) r
@@ -86,7 +76,6 @@ pub record Counted (s : Setup) (rs : List Reply) : Type 0 where
   -- a gradient is asked at most once for each value
   pub gradients : countOf isGradient rs + failedOf 2 s rs + openOf 2 (run s rs) ≤ countOf isValue rs
   pub completed : run s rs .counters .njev ≡ gradientsCompleted s rs
-  pub drawn : run s rs .counters .drawn ≡ run s rs .counters .nfev
   pub valueBudget : run s rs .counters .nfev ≤ limitsOf s .maxfev
   pub noticeBudget : run s rs .counters .nit ≤ limitsOf s .maxiter
 
@@ -118,16 +107,9 @@ Situation Termination.lineSearchFailed c r m =
     (gradientSmall m ≡ false) × (m .counters .nit < m .limits .maxiter) × (1 ≤ m .counters .nit → decreaseSmall m ≡ false)
 Situation Termination.objectiveFailed c r m = r ≡ Reply.failure
 
--- the statuses that come whenever their situation does: a fit at its last value need not want another, and a search may find its step
+-- the statuses that come whenever their situation does, all but 4 and 7: a fit at its last value need not want another, and a search may find its step
 abbrev pub exact : Termination → Bool
-exact Termination.gtol = true
-exact Termination.ftol = true
-exact Termination.maxIterations = true
-exact Termination.maxEvaluations = false
-exact Termination.cancelled = true
-exact Termination.nonfinite = true
-exact Termination.lineSearchFailed = false
-exact Termination.objectiveFailed = true
+exact t = not (eqb (statusNumber t) 4 || eqb (statusNumber t) 7)
 
 -- ---- sizes
 

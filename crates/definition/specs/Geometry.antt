@@ -9,8 +9,8 @@ use lib.Ieee as Ieee
 use lib.Ieee.{Float, nan, isNan}
 use lib.Ieee.Scale.{finite}
 use Rattle.definition.specs.Number.{plus, minus, times, over, min, totalLe, zero64, negZero, one64, infinity}
-use Rattle.definition.specs.Vector.{foldTo, tab, word, zeros, sum, dot, allFinite, difference, finiteOnly}
-use Rattle.definition.specs.Problem.{Bounds, inBox}
+use Rattle.definition.specs.Vector.{foldTo, tab, word, zeros, sum, dot, allFinite, difference, _andThen_, finiteOnly}
+use Rattle.definition.specs.Problem.{Bounds, inBox, orElse}
 use Rattle.definition.specs.Solve.{Matrix, solve}
 use Rattle.definition.specs.Compact.{Compact, count, columnWord, blockEntry, padded, paddedRows, product}
 
@@ -61,6 +61,9 @@ pub record Path : Type 0 where
   pub previous : Float
   pub event : ℕ
 
+abbrev pub path : List Float → List Float → List Float → Float → ℕ → Path
+path d z a t k = record { direction = d; displacement = z; active = a; previous = t; event = k }
+
 -- a segment ends the path, with a point or without, or leads on
 pub data Segment : Type 0 where
   ended : Option (List Float) → Segment
@@ -75,26 +78,18 @@ pointOnPath n b x p =
     finiteOnly n (tab n (λ i. stoodAt (word (p .active) i) (inBox b i (plus (word x i) (word (p .displacement) i)))))
 
 abbrev pub travelled : ℕ → Float → Path → Path
-travelled n t p = record {
-  direction = p .direction;
-  displacement = tab n (λ i. plus (word (p .displacement) i) (times t (word (p .direction) i)));
-  active = p .active;
-  previous = p .previous;
-  event = p .event;
-}
+travelled n t p =
+    let z = tab n (λ i. plus (word (p .displacement) i) (times t (word (p .direction) i))) in
+    path (p .direction) z (p .active) (p .previous) (p .event)
 
 abbrev pub boundMet : Bounds → Path → ℕ → Float
 boundMet b p i = cond (Ieee.lt zero64 (word (p .direction) i)) (word (b .upper) i) (word (b .lower) i)
 
 -- coordinate i stops at its bound
 abbrev pub stopped : Bounds → List Float → ℕ → Path → Path
-stopped b x i p = record {
-  direction = set (p .direction) i zero64;
-  displacement = set (p .displacement) i (minus (boundMet b p i) (word x i));
-  active = set (p .active) i (boundMet b p i);
-  previous = p .previous;
-  event = p .event + 1;
-}
+stopped b x i p =
+    path (set (p .direction) i zero64) (set (p .displacement) i (minus (boundMet b p i) (word x i))) (set (p .active) i (boundMet b p i))
+    (p .previous) (p .event + 1)
 
 -- every break at the time t stops its coordinate; at most `left` of them
 unfoldable pub stopAll : ℕ → Bounds → List Float → List Break → Float → Path → Path
@@ -104,7 +99,7 @@ stopAll (suc left) b x bs t p =
     cond (Ieee.eq (getD bs (p .event) noBreak .time) t) next p
 
 abbrev pub reached : Float → Path → Path
-reached t p = record { direction = p .direction; displacement = p .displacement; active = p .active; previous = t; event = p .event }
+reached t p = path (p .direction) (p .displacement) (p .active) t (p .event)
 
 -- past the segment that ends at t
 unfoldable pub passed : ℕ → Bounds → List Float → List Break → Float → Path → Path
@@ -124,19 +119,16 @@ bySlope n b x bs p slope curvature =
     (cond (Ieee.le zero64 slope) (ended (pointOnPath n b x p))
     (along n b x bs p (getD bs (p .event) noBreak .time) (over (Ieee.neg slope) curvature)))
 
-abbrev pub byProducts : ℕ → Bounds → List Float → List Float → List Break → Path → Option (List Float) → Option (List Float) → Segment
-byProducts n b x g bs p none bz = ended none
-byProducts n b x g bs p (some bd) none = ended none
-byProducts n b x g bs p (some bd) (some bz) =
-    bySlope n b x bs p (plus (dot n g (p .direction)) (dot n bz (p .direction))) (dot n (p .direction) bd)
-
 abbrev pub still : ℕ → List Float → Bool
 still n d = foldTo n (λ i s. s && Ieee.eq (word d i) zero64) true
 
+-- a product that fails ends the path with no point
 unfoldable pub segment : ℕ → Bounds → Compact → List Float → List Float → List Break → Path → Segment
 segment n b c x g bs p =
-    cond (still n (p .direction)) (ended (pointOnPath n b x p))
-    (byProducts n b x g bs p (product n c (p .direction)) (product n c (p .displacement)))
+    let d = p .direction in
+    let next = product n c d andThen λ bd. product n c (p .displacement) andThen λ bz.
+    some (bySlope n b x bs p (plus (dot n g d) (dot n bz d)) (dot n d bd)) in
+    cond (still n d) (ended (pointOnPath n b x p)) (orElse next (ended none))
 
 -- Each segment that leads on passes a break, so `left` segments more than the breaks there are always end the path.
 unfoldable pub walk : ℕ → ℕ → Bounds → Compact → List Float → List Float → List Break → Segment → Option (List Float)
@@ -146,13 +138,7 @@ walk (suc left) n b c x g bs (ended r) = r
 walk (suc left) n b c x g bs (onward p) = walk left n b c x g bs (segment n b c x g bs p)
 
 abbrev pub pathStart : ℕ → Bounds → List Float → List Float → Path
-pathStart n b x g = record {
-  direction = tab n (velocity b x g);
-  displacement = zeros n;
-  active = tab n (λ i. nan);
-  previous = zero64;
-  event = 0;
-}
+pathStart n b x g = path (tab n (velocity b x g)) (zeros n) (tab n (λ i. nan)) zero64 0
 
 -- `generalized_cauchy`
 unfoldable pub generalizedCauchy : ℕ → Bounds → Compact → List Float → List Float → Option (List Float)
@@ -187,13 +173,10 @@ reducedRight n b p c r = padded zero64 (2 * count c) (λ i. freeSum n b p (λ k.
 abbrev pub correction : Compact → List Float → ℕ → Float
 correction c z i = sum (2 * count c) (λ k. times (columnWord c k i) (word z k))
 
-unfoldable pub weightedSteps : ℕ → Bounds → List Float → Compact → List Float → Option (List Float) → Option (List Float)
-weightedSteps n b p c r none = none
-weightedSteps n b p c r (some z) =
-    some (freeSteps n b p (λ i. over (Ieee.neg (plus (word r i) (over (correction c z i) (c .theta)))) (c .theta)))
-
 unfoldable pub stepsWithPairs : ℕ → Bounds → List Float → Compact → List Float → Option (List Float)
-stepsWithPairs n b p c r = weightedSteps n b p c r (solve (2 * count c) (paddedRows c (reducedEntry n b p c)) (reducedRight n b p c r))
+stepsWithPairs n b p c r =
+    solve (2 * count c) (paddedRows c (reducedEntry n b p c)) (reducedRight n b p c r) andThen λ z.
+    some (freeSteps n b p (λ i. over (Ieee.neg (plus (word r i) (over (correction c z i) (c .theta)))) (c .theta)))
 
 abbrev pub stepsOf : ℕ → Bounds → List Float → Compact → List Float → Option (List Float)
 stepsOf n b p c r =
@@ -212,13 +195,15 @@ unfoldable pub moved : ℕ → Bounds → List Float → List Float → Float �
 moved n b p steps alpha =
     finiteOnly n (tab n (λ i. cond (free b p i) (inBox b i (plus (word p i) (times alpha (word steps i)))) (word p i)))
 
-abbrev pub movedBy : ℕ → Bounds → List Float → Option (List Float) → Option (List Float)
-movedBy n b p none = none
-movedBy n b p (some steps) = cond (allFinite n steps) (moved n b p steps (shareOf n b p steps)) none
+abbrev pub movedBy : ℕ → Bounds → List Float → List Float → Option (List Float)
+movedBy n b p steps = cond (allFinite n steps) (moved n b p steps (shareOf n b p steps)) none
 
-abbrev pub onFree : ℕ → Bounds → List Float → Compact → List Float → Option (List Float) → Option (List Float)
-onFree n b p c g none = none
-onFree n b p c g (some bz) = movedBy n b p (stepsOf n b p c (tab n (λ i. plus (word bz i) (word g i))))
+-- from the residual r, the model's gradient at p
+abbrev pub onFree : ℕ → Bounds → List Float → Compact → List Float → Option (List Float)
+onFree n b p c r = stepsOf n b p c r andThen movedBy n b p
+
+abbrev pub residual : ℕ → Compact → List Float → List Float → List Float → Option (List Float)
+residual n c x g p = product n c (difference n p x) andThen λ bz. some (tab n (λ i. plus (word bz i) (word g i)))
 
 unfoldable pub primalMinimize : ℕ → Bounds → Compact → List Float → List Float → List Float → Option (List Float)
-primalMinimize n b c x g p = cond (anyFree n b p) (onFree n b p c g (product n c (difference n p x))) (some p)
+primalMinimize n b c x g p = cond (anyFree n b p) (residual n c x g p andThen onFree n b p c) (some p)

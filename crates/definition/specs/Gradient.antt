@@ -41,12 +41,9 @@ pub data Probes : Type 0 where
 abbrev pub probes : Bool → Bool → Scheme → Float → Float → Probes
 probes true true central right left = both right left
 probes true true forward right left = rightOnly right
-probes true false central right left = rightOnly right
-probes true false forward right left = rightOnly right
-probes false true central right left = leftOnly left
-probes false true forward right left = leftOnly left
-probes false false central right left = neither
-probes false false forward right left = neither
+probes true false s right left = rightOnly right
+probes false true s right left = leftOnly left
+probes false false s right left = neither
 
 -- a probe point that is not finite, or does not move, is not taken
 abbrev pub probesOf : Scheme → Float → Float → Float → Probes

@@ -1,15 +1,15 @@
 -- The history of a fit, document 01's book: fed the calls with their own arguments, and of area and log the lengths,
 -- it says what each call answers and what it leaves.
-use Prim.Native.Nat.{ℕ, _+_, _-_, _*_}
-use mathlib.Core.Bool.{Bool, false, cond, _||_}
-use mathlib.Core.List.{List, [], _∷_}
+use Prim.Native.Nat.{ℕ, _+_, _*_}
+use mathlib.Core.Bool.{Bool, false, _||_}
+use mathlib.Core.List.{List, [], _∷_, _++_}
 use mathlib.Core.Option.{Option, none, some}
 use lib.Dec.{eqb, ltb}
-use lib.ListN.{length, drop, getD}
+use lib.ListN.{length}
 use Rattle.definition.specs.Problem.{Setup, Refusal, Check, refuse, when, _then_, validate, dimension}
-use Rattle.definition.specs.Machine.{Reply, Question, Report, checkDue, question as questionOf, report as reportOf, unreported}
-use Rattle.definition.specs.Driver.{run}
-use Rattle.definition.specs.Log.{entryWords, logWords}
+use Rattle.definition.specs.Machine.{Reply, Question, Report, checkDue, question as questionOf, reportNow as reportOf, unreported}
+use Rattle.definition.specs.Log.{entryWords}
+use Rattle.definition.specs.Book.{Book, openedBook, withReply, struck, runOf, logOf, entryAt}
 use Rattle.definition.specs.Record.{Lengths, Reading, checkArea, readRecord, recordWords, recordBytes}
 
 -- `question` and `report` bring an output slice of this many floats, `entry` one of this many words, `save` one of this many bytes.
@@ -36,16 +36,23 @@ pub data Answer : Type 0 where
   entered : List ℕ → Answer
   saved : List ℕ → Answer
 
--- a fit's setup and the replies kept, newest first
+-- nothing is held, or a fit by its book
 pub data History : Type 0 where
   empty : History
-  fit : Setup → List Reply → History
+  fit : Book → History
 
 -- ---- refusals by place: the numbers that document 01's table has for each call
 
+-- those of a setup, and the largest of all
+abbrev pub setupRow : List ℕ
+setupRow = 1 ∷ 2 ∷ 3 ∷ 4 ∷ 5 ∷ 6 ∷ 7 ∷ 8 ∷ 9 ∷ 10 ∷ []
+
+abbrev pub mostRefusal : ℕ
+mostRefusal = 19
+
 abbrev pub refusalsOf : Call → List ℕ
-refusalsOf (Call.start s) = 1 ∷ 2 ∷ 3 ∷ 4 ∷ 5 ∷ 6 ∷ 7 ∷ 8 ∷ 9 ∷ 10 ∷ 11 ∷ []
-refusalsOf (Call.restore bs) = 1 ∷ 2 ∷ 3 ∷ 4 ∷ 5 ∷ 6 ∷ 7 ∷ 8 ∷ 9 ∷ 10 ∷ 11 ∷ 12 ∷ 17 ∷ 18 ∷ []
+refusalsOf (Call.start s) = setupRow ++ (11 ∷ [])
+refusalsOf (Call.restore bs) = setupRow ++ (11 ∷ 12 ∷ 17 ∷ 18 ∷ [])
 refusalsOf (Call.reply r) = 13 ∷ 14 ∷ 12 ∷ []
 refusalsOf (Call.takeBack j) = 16 ∷ 12 ∷ 17 ∷ []
 refusalsOf (Call.question room) = 19 ∷ []
@@ -58,125 +65,82 @@ abbrev pub among : ℕ → List ℕ → Bool
 among k [] = false
 among k (x ∷ xs) = eqb k x || among k xs
 
--- ---- refusals, of a call that is no restore
+-- ---- checks of a fit held
 
-abbrev pub logShort : Lengths → List Reply → Check
-logShort z rs = when (ltb (z .log) (length (logWords rs))) (refuse 12 0 0)
+abbrev pub logShort : Lengths → Book → Check
+logShort z b = when (ltb (z .log) (length (logOf b))) (refuse 12 0 0)
 
 abbrev pub outputShort : ℕ → ℕ → Check
 outputShort room needed = when (ltb room needed) (refuse 19 needed 0)
 
-abbrev pub checkReply : Lengths → Setup → List Reply → Reply → Check
-checkReply z s rs r =
-    checkDue (run s rs) r
-    then when (ltb (z .log) (length (logWords rs) + length (entryWords r))) (refuse 12 0 0)
+abbrev pub checkReply : Lengths → Book → Reply → Check
+checkReply z b r = checkDue (runOf b) r then when (ltb (z .log) (length (logOf b) + length (entryWords r))) (refuse 12 0 0)
 
-abbrev pub checkQuestion : Setup → ℕ → Option Question → Check
-checkQuestion s room none = none
-checkQuestion s room (some q) = outputShort room (dimension s)
+abbrev pub checkQuestion : Book → ℕ → Option Question → Check
+checkQuestion b room none = none
+checkQuestion b room (some q) = outputShort room (dimension (b .setup))
 
--- entry k from the oldest is reply (count - 1 - k) from the newest
-abbrev pub entryAt : List Reply → ℕ → List ℕ
-entryAt rs k = cond (ltb k (length rs)) (entryWords (getD rs (length rs - (k + 1)) Reply.failure)) []
+-- ---- each call: the check, and where it passes what is left and what is answered
 
-abbrev pub refusal : Lengths → History → Call → Check
-refusal z h (Call.start s) = validate s then checkArea z s
-refusal z h (Call.restore bs) = none
-refusal z History.empty (Call.reply r) = refuse 13 0 0
-refusal z (History.fit s rs) (Call.reply r) = checkReply z s rs r
-refusal z History.empty (Call.takeBack j) = when (ltb 0 j) (refuse 16 0 0)
-refusal z (History.fit s rs) (Call.takeBack j) = when (ltb (length rs) j) (refuse 16 0 0) then logShort z rs
-refusal z History.empty (Call.question room) = none
-refusal z (History.fit s rs) (Call.question room) = checkQuestion s room (questionOf (run s rs))
-refusal z History.empty (Call.report room) = refuse 15 0 0
-refusal z (History.fit s rs) (Call.report room) =
-    when (unreported (run s rs .phase)) (refuse 15 0 0) then outputShort room (dimension s)
-refusal z h Call.replies = none
-refusal z History.empty (Call.entry k room) = none
-refusal z (History.fit s rs) (Call.entry k room) = logShort z rs then outputShort room (length (entryAt rs k))
-refusal z History.empty (Call.save room) = none
-refusal z (History.fit s rs) (Call.save room) = logShort z rs then outputShort room (8 * length (recordWords s rs))
+pub record Row : Type 0 where
+  pub check : Check
+  pub left : History
+  pub answer : Answer
 
--- ---- what an accepted call, no restore, leaves and answers
+abbrev pub checked : Check → History → Answer → Row
+checked c left a = record { check = c; left = left; answer = a }
 
-abbrev pub left : History → Call → History
-left h (Call.start s) = History.fit s []
-left h (Call.restore bs) = h
-left History.empty (Call.reply r) = History.empty
-left (History.fit s rs) (Call.reply r) = History.fit s (r ∷ rs)
-left History.empty (Call.takeBack j) = History.empty
-left (History.fit s rs) (Call.takeBack j) = History.fit s (drop j rs)
-left h (Call.question room) = h
-left h (Call.report room) = h
-left h Call.replies = h
-left h (Call.entry k room) = h
-left h (Call.save room) = h
-
-abbrev pub accepted : History → Call → Answer
-accepted h (Call.start s) = Answer.done
-accepted h (Call.restore bs) = Answer.done
-accepted h (Call.reply r) = Answer.done
-accepted h (Call.takeBack j) = Answer.done
-accepted History.empty (Call.question room) = Answer.asked none
-accepted (History.fit s rs) (Call.question room) = Answer.asked (questionOf (run s rs))
-accepted History.empty (Call.report room) = Answer.refused (record { number = 15; first = 0; second = 0 })
-accepted (History.fit s rs) (Call.report room) = Answer.reported (reportOf (run s rs))
-accepted History.empty Call.replies = Answer.counted 0
-accepted (History.fit s rs) Call.replies = Answer.counted (length rs)
-accepted History.empty (Call.entry k room) = Answer.entered []
-accepted (History.fit s rs) (Call.entry k room) = Answer.entered (entryAt rs k)
-accepted History.empty (Call.save room) = Answer.saved []
-accepted (History.fit s rs) (Call.save room) = Answer.saved (recordBytes s rs)
-
--- ---- a restore: one refused at an entry empties the history, any earlier refusal keeps it
-
+-- a reading has checked already: refused ahead of the entries it keeps the history, refused at an entry it empties it
 abbrev pub restored : History → Reading → History
-restored h (Reading.accepted s rs) = History.fit s rs
-restored h (Reading.refused c) = h
-restored h (Reading.refusedAtEntry c) = History.empty
+restored h (Reading.accepted b) = History.fit b
+restored h (Reading.refused r) = h
+restored h (Reading.refusedAtEntry r) = History.empty
 
 abbrev pub restoredAnswer : Reading → Answer
-restoredAnswer (Reading.accepted s rs) = Answer.done
-restoredAnswer (Reading.refused c) = Answer.refused c
-restoredAnswer (Reading.refusedAtEntry c) = Answer.refused c
+restoredAnswer (Reading.accepted b) = Answer.done
+restoredAnswer (Reading.refused r) = Answer.refused r
+restoredAnswer (Reading.refusedAtEntry r) = Answer.refused r
 
--- ---- each call, and every list of calls
+abbrev pub callRow : Lengths → History → Call → Row
+callRow z h (Call.start s) = checked (validate s then checkArea z s) (History.fit (openedBook s)) Answer.done
+callRow z h (Call.restore bs) = checked none (restored h (readRecord z bs)) (restoredAnswer (readRecord z bs))
+callRow z History.empty (Call.reply r) = checked (refuse 13 0 0) History.empty Answer.done
+callRow z (History.fit b) (Call.reply r) = checked (checkReply z b r) (History.fit (withReply r b)) Answer.done
+callRow z History.empty (Call.takeBack j) = checked (when (ltb 0 j) (refuse 16 0 0)) History.empty Answer.done
+callRow z (History.fit b) (Call.takeBack j) =
+    checked (when (ltb (length (b .replies)) j) (refuse 16 0 0) then logShort z b) (History.fit (struck j b)) Answer.done
+callRow z History.empty (Call.question room) = checked none History.empty (Answer.asked none)
+callRow z (History.fit b) (Call.question room) =
+    checked (checkQuestion b room (questionOf (runOf b))) (History.fit b) (Answer.asked (questionOf (runOf b)))
+callRow z History.empty (Call.report room) = checked (refuse 15 0 0) History.empty Answer.done
+callRow z (History.fit b) (Call.report room) =
+    checked (when (unreported (runOf b .phase)) (refuse 15 0 0) then outputShort room (dimension (b .setup)))
+    (History.fit b) (Answer.reported (reportOf (runOf b)))
+callRow z History.empty Call.replies = checked none History.empty (Answer.counted 0)
+callRow z (History.fit b) Call.replies = checked none (History.fit b) (Answer.counted (length (b .replies)))
+callRow z History.empty (Call.entry k room) = checked none History.empty (Answer.entered [])
+callRow z (History.fit b) (Call.entry k room) =
+    checked (logShort z b then outputShort room (length (entryAt (b .replies) k))) (History.fit b) (Answer.entered (entryAt (b .replies) k))
+callRow z History.empty (Call.save room) = checked none History.empty (Answer.saved [])
+callRow z (History.fit b) (Call.save room) =
+    checked (logShort z b then outputShort room (8 * length (recordWords b))) (History.fit b) (Answer.saved (recordBytes b))
 
-abbrev pub leftUnless : Check → History → Call → History
-leftUnless none h c = left h c
-leftUnless (some r) h c = h
+-- refused, the history stays
+abbrev pub leftBy : Check → History → History → History
+leftBy none h left = left
+leftBy (some r) h left = h
 
-abbrev pub answerUnless : Check → History → Call → Answer
-answerUnless none h c = accepted h c
-answerUnless (some r) h c = Answer.refused r
-
-abbrev pub stepOther : Lengths → History → Call → History
-stepOther z h c = leftUnless (refusal z h c) h c
-
-abbrev pub answerOther : Lengths → History → Call → Answer
-answerOther z h c = answerUnless (refusal z h c) h c
+abbrev pub refusedBy : Check → Answer → Answer
+refusedBy none a = a
+refusedBy (some r) a = Answer.refused r
 
 abbrev pub historyStep : Lengths → History → Call → History
-historyStep z h (Call.start s) = stepOther z h (Call.start s)
-historyStep z h (Call.restore bs) = restored h (readRecord z bs)
-historyStep z h (Call.reply r) = stepOther z h (Call.reply r)
-historyStep z h (Call.takeBack j) = stepOther z h (Call.takeBack j)
-historyStep z h (Call.question room) = h
-historyStep z h (Call.report room) = h
-historyStep z h Call.replies = h
-historyStep z h (Call.entry k room) = h
-historyStep z h (Call.save room) = h
+historyStep z h c = leftBy (callRow z h c .check) h (callRow z h c .left)
 
 abbrev pub historyAnswer : Lengths → History → Call → Answer
-historyAnswer z h (Call.start s) = answerOther z h (Call.start s)
-historyAnswer z h (Call.restore bs) = restoredAnswer (readRecord z bs)
-historyAnswer z h (Call.reply r) = answerOther z h (Call.reply r)
-historyAnswer z h (Call.takeBack j) = answerOther z h (Call.takeBack j)
-historyAnswer z h (Call.question room) = answerOther z h (Call.question room)
-historyAnswer z h (Call.report room) = answerOther z h (Call.report room)
-historyAnswer z h Call.replies = answerOther z h Call.replies
-historyAnswer z h (Call.entry k room) = answerOther z h (Call.entry k room)
-historyAnswer z h (Call.save room) = answerOther z h (Call.save room)
+historyAnswer z h c = refusedBy (callRow z h c .check) (callRow z h c .answer)
+
+-- ---- every list of calls
 
 unfoldable pub historyAfter : Lengths → History → List Call → History
 historyAfter z h [] = h

@@ -10,6 +10,7 @@ pub mod Search
 pub mod Machine
 pub mod Driver
 pub mod Log
+pub mod Book
 pub mod Record
 pub mod History
 pub mod Programs

@@ -6,17 +6,12 @@ use mathlib.Core.Option.{Option, none, some}
 use lib.Dec.{eqb, ltb}
 use lib.ListN.{length, take, drop}
 use Rattle.definition.specs.Problem.{Setup, Check}
-use Rattle.definition.specs.Machine.{Reply, Machine, checkDue}
+use Rattle.definition.specs.Machine.{Reply, Machine, replyKind, broughtWords, checkDue}
 use Rattle.definition.specs.Driver.{answer, begin}
 
 -- the kind, then the reply's words
 abbrev pub entryWords : Reply → List ℕ
-entryWords (Reply.value v) = 1 ∷ v ∷ []
-entryWords (Reply.gradient ws) = 2 ∷ ws
-entryWords Reply.notSupplied = 3 ∷ []
-entryWords Reply.goOn = 4 ∷ []
-entryWords Reply.stop = 5 ∷ []
-entryWords Reply.failure = 6 ∷ []
+entryWords r = replyKind r ∷ broughtWords r
 
 unfoldable pub logWords : List Reply → List ℕ
 logWords [] = []
@@ -41,7 +36,7 @@ entryOf n k ws =
     (cond (eqb k 5) (some Reply.stop)
     (cond (eqb k 6) (some Reply.failure) none)))))
 
--- ---- reading all entries into a log of `room` words
+-- ---- reading entries into a log of `room` words, one by one
 
 pub data Entries : Type 0 where
   -- all are read
@@ -65,32 +60,23 @@ abbrev pub nextEntry : ℕ → List ℕ → List Reply → Machine → Entries
 nextEntry room [] rs m = Entries.kept rs
 nextEntry room (k ∷ ws) rs m = admit room ws rs m (entryOf (m .terms .n) k ws)
 
--- at most `left` entries, which as many as there are words always suffices for
-unfoldable pub readEntries : ℕ → ℕ → Entries → Entries
-readEntries zero room (Entries.kept rs) = Entries.kept rs
-readEntries zero room (Entries.refusedAt c) = Entries.refusedAt c
-readEntries zero room (Entries.going ws rs m) = Entries.refusedAt 17
-readEntries (suc left) room (Entries.kept rs) = Entries.kept rs
-readEntries (suc left) room (Entries.refusedAt c) = Entries.refusedAt c
-readEntries (suc left) room (Entries.going ws rs m) = readEntries left room (nextEntry room ws rs m)
-
-abbrev pub entriesOf : Setup → ℕ → List ℕ → Entries
-entriesOf s room ws = readEntries (length ws + 1) room (Entries.going ws [] (begin s))
-
--- ---- the first entries of a log, one by one
-
 abbrev pub oneMore : ℕ → Entries → Entries
 oneMore room (Entries.kept rs) = Entries.kept rs
 oneMore room (Entries.refusedAt c) = Entries.refusedAt c
 oneMore room (Entries.going ws rs m) = nextEntry room ws rs m
 
--- the reading above, after k entries
+-- the reading after k entries
 unfoldable pub afterEntries : ℕ → ℕ → Entries → Entries
 afterEntries zero room e = e
 afterEntries (suc k) room e = oneMore room (afterEntries k room e)
 
 abbrev pub firstEntries : Setup → List ℕ → Entries
 firstEntries s ws = Entries.going ws [] (begin s)
+
+-- Document 01 at record in: "then per entry: 17 unknown, cut or not due; 12".
+-- Each entry has a word or more, so one step more than there are words always reaches the end.
+abbrev pub entriesOf : Setup → ℕ → List ℕ → Entries
+entriesOf s room ws = afterEntries (length ws + 1) room (firstEntries s ws)
 
 -- Document 01 at take back: "per entry kept, in altered logs only: 17 unknown, cut or not due".
 -- The replies of the entries read, if all of them could be: an entry that the words end before is cut.
@@ -99,6 +85,6 @@ stayed (Entries.kept rs) = none
 stayed (Entries.refusedAt c) = none
 stayed (Entries.going ws rs m) = some rs
 
--- the replies of the first `count` entries of ws, the words of a log of `room` words; none where one of them is unknown, cut or not due
-abbrev pub entriesKept : Setup → ℕ → ℕ → List ℕ → Option (List Reply)
-entriesKept s room count ws = stayed (afterEntries count room (firstEntries s ws))
+-- the replies of the first `count` entries of ws, a log's own words; none where one of them is unknown, cut or not due
+abbrev pub entriesKept : Setup → ℕ → List ℕ → Option (List Reply)
+entriesKept s count ws = stayed (afterEntries count (length ws) (firstEntries s ws))

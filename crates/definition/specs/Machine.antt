@@ -1,10 +1,10 @@
 -- The machine of a fit: its fields, what it asks, which replies are due, and its report.
 use Prim.Native.Nat.{ℕ}
-use mathlib.Core.Bool.{Bool, true, false, not}
-use mathlib.Core.List.{List}
+use mathlib.Core.Bool.{Bool, true, false, not, cond, _&&_, _||_}
+use mathlib.Core.List.{List, [], _∷_}
 use mathlib.Core.Option.{Option, none, some}
 use lib.Dec.{eqb}
-use lib.ListN.{length, set}
+use lib.ListN.{length, getD, set}
 use lib.Ieee.{Float}
 use Rattle.definition.specs.Problem.{Terms, Limits, Check, refuse, when, _then_}
 use Rattle.definition.specs.Compact.{Compact}
@@ -22,6 +22,42 @@ pub data Reply : Type 0 where
   goOn : Reply
   stop : Reply
   failure : Reply
+
+-- the kind of a reply, the first word of its entry
+abbrev pub replyKind : Reply → ℕ
+replyKind (Reply.value v) = 1
+replyKind (Reply.gradient ws) = 2
+replyKind Reply.notSupplied = 3
+replyKind Reply.goOn = 4
+replyKind Reply.stop = 5
+replyKind Reply.failure = 6
+
+-- the words that it brings, the rest of its entry
+abbrev pub broughtWords : Reply → List ℕ
+broughtWords (Reply.value v) = v ∷ []
+broughtWords (Reply.gradient ws) = ws
+broughtWords Reply.notSupplied = []
+broughtWords Reply.goOn = []
+broughtWords Reply.stop = []
+broughtWords Reply.failure = []
+
+-- the word of a value
+abbrev pub firstWord : Reply → ℕ
+firstWord r = getD (broughtWords r) 0 0
+
+abbrev pub isValue : Reply → Bool
+isValue r = eqb (replyKind r) 1
+
+-- a reply to a gradient question: a gradient, or not supplied
+abbrev pub isGradient : Reply → Bool
+isGradient r = eqb (replyKind r) 2 || eqb (replyKind r) 3
+
+-- a reply to a notice: go on, or stop
+abbrev pub isNotice : Reply → Bool
+isNotice r = eqb (replyKind r) 4 || eqb (replyKind r) 5
+
+abbrev pub isFailure : Reply → Bool
+isFailure r = eqb (replyKind r) 6
 
 -- 1 value, 2 gradient, 3 iteration notice
 pub record Question : Type 0 where
@@ -69,126 +105,46 @@ pub record Machine : Type 0 where
 abbrev pub state : List Float → Float → List Float → State
 state x f g = record { x = x; f = f; g = g }
 
+-- a machine by its fields, in their order
+abbrev pub made : Terms → Limits → State → Compact → State → List Float → Search → Float → Float → Counters → Phase → Machine
+made terms limits held compact tried direction searched rightValue before counters phase = record {
+  terms = terms;
+  limits = limits;
+  held = held;
+  compact = compact;
+  trial = tried;
+  direction = direction;
+  search = searched;
+  rightValue = rightValue;
+  before = before;
+  counters = counters;
+  phase = phase;
+}
+
 -- the machine with another value in one field
 abbrev pub inPhase : Phase → Machine → Machine
-inPhase p m = record {
-  terms = m .terms;
-  limits = m .limits;
-  held = m .held;
-  compact = m .compact;
-  trial = m .trial;
-  direction = m .direction;
-  search = m .search;
-  rightValue = m .rightValue;
-  before = m .before;
-  counters = m .counters;
-  phase = p;
-}
+inPhase p m = made (m .terms) (m .limits) (m .held) (m .compact) (m .trial) (m .direction) (m .search) (m .rightValue) (m .before) (m .counters) p
 
 abbrev pub counting : Counters → Machine → Machine
-counting k m = record {
-  terms = m .terms;
-  limits = m .limits;
-  held = m .held;
-  compact = m .compact;
-  trial = m .trial;
-  direction = m .direction;
-  search = m .search;
-  rightValue = m .rightValue;
-  before = m .before;
-  counters = k;
-  phase = m .phase;
-}
+counting k m = made (m .terms) (m .limits) (m .held) (m .compact) (m .trial) (m .direction) (m .search) (m .rightValue) (m .before) k (m .phase)
 
 abbrev pub holding : State → Machine → Machine
-holding h m = record {
-  terms = m .terms;
-  limits = m .limits;
-  held = h;
-  compact = m .compact;
-  trial = m .trial;
-  direction = m .direction;
-  search = m .search;
-  rightValue = m .rightValue;
-  before = m .before;
-  counters = m .counters;
-  phase = m .phase;
-}
+holding h m = made (m .terms) (m .limits) h (m .compact) (m .trial) (m .direction) (m .search) (m .rightValue) (m .before) (m .counters) (m .phase)
 
 abbrev pub trying : State → Machine → Machine
-trying t m = record {
-  terms = m .terms;
-  limits = m .limits;
-  held = m .held;
-  compact = m .compact;
-  trial = t;
-  direction = m .direction;
-  search = m .search;
-  rightValue = m .rightValue;
-  before = m .before;
-  counters = m .counters;
-  phase = m .phase;
-}
+trying t m = made (m .terms) (m .limits) (m .held) (m .compact) t (m .direction) (m .search) (m .rightValue) (m .before) (m .counters) (m .phase)
 
 abbrev pub withCompact : Compact → Machine → Machine
-withCompact c m = record {
-  terms = m .terms;
-  limits = m .limits;
-  held = m .held;
-  compact = c;
-  trial = m .trial;
-  direction = m .direction;
-  search = m .search;
-  rightValue = m .rightValue;
-  before = m .before;
-  counters = m .counters;
-  phase = m .phase;
-}
+withCompact c m = made (m .terms) (m .limits) (m .held) c (m .trial) (m .direction) (m .search) (m .rightValue) (m .before) (m .counters) (m .phase)
 
 abbrev pub heading : List Float → Machine → Machine
-heading d m = record {
-  terms = m .terms;
-  limits = m .limits;
-  held = m .held;
-  compact = m .compact;
-  trial = m .trial;
-  direction = d;
-  search = m .search;
-  rightValue = m .rightValue;
-  before = m .before;
-  counters = m .counters;
-  phase = m .phase;
-}
+heading d m = made (m .terms) (m .limits) (m .held) (m .compact) (m .trial) d (m .search) (m .rightValue) (m .before) (m .counters) (m .phase)
 
 abbrev pub searching : Search → Machine → Machine
-searching r m = record {
-  terms = m .terms;
-  limits = m .limits;
-  held = m .held;
-  compact = m .compact;
-  trial = m .trial;
-  direction = m .direction;
-  search = r;
-  rightValue = m .rightValue;
-  before = m .before;
-  counters = m .counters;
-  phase = m .phase;
-}
+searching r m = made (m .terms) (m .limits) (m .held) (m .compact) (m .trial) (m .direction) r (m .rightValue) (m .before) (m .counters) (m .phase)
 
 abbrev pub withRight : Float → Machine → Machine
-withRight v m = record {
-  terms = m .terms;
-  limits = m .limits;
-  held = m .held;
-  compact = m .compact;
-  trial = m .trial;
-  direction = m .direction;
-  search = m .search;
-  rightValue = v;
-  before = m .before;
-  counters = m .counters;
-  phase = m .phase;
-}
+withRight v m = made (m .terms) (m .limits) (m .held) (m .compact) (m .trial) (m .direction) (m .search) v (m .before) (m .counters) (m .phase)
 
 abbrev pub ending : Termination → Machine → Machine
 ending t m = inPhase (Phase.ended t) m
@@ -203,24 +159,20 @@ kindOf (Phase.probe w i side) = 1
 kindOf Phase.notice = 3
 kindOf (Phase.ended t) = 0
 
+-- the kind of the question that a reply, no failure, is for
+abbrev pub kindAsked : Reply → ℕ
+kindAsked r = cond (isValue r) 1 (cond (isGradient r) 2 3)
+
+-- a failure suits every question
 abbrev pub suits : ℕ → Reply → Bool
-suits kind (Reply.value v) = eqb kind 1
-suits kind (Reply.gradient ws) = eqb kind 2
-suits kind Reply.notSupplied = eqb kind 2
-suits kind Reply.goOn = eqb kind 3
-suits kind Reply.stop = eqb kind 3
-suits kind Reply.failure = not (eqb kind 0)
+suits kind r = cond (isFailure r) (not (eqb kind 0)) (eqb kind (kindAsked r))
 
 abbrev pub takes : Machine → Reply → Bool
 takes m r = suits (kindOf (m .phase)) r
 
 abbrev pub checkLength : ℕ → Reply → Check
-checkLength n (Reply.value v) = none
-checkLength n (Reply.gradient ws) = when (not (eqb (length ws) n)) (refuse 14 n (length ws))
-checkLength n Reply.notSupplied = none
-checkLength n Reply.goOn = none
-checkLength n Reply.stop = none
-checkLength n Reply.failure = none
+checkLength n r =
+    when (eqb (replyKind r) 2 && not (eqb (length (broughtWords r)) n)) (refuse 14 n (length (broughtWords r)))
 
 -- ended, or the kind is not due; then the gradient's length
 abbrev pub checkDue : Machine → Reply → Check
@@ -271,13 +223,18 @@ unreported (Phase.probe w i side) = false
 unreported Phase.notice = false
 unreported (Phase.ended t) = eqb (statusNumber t) 8
 
-abbrev pub report : Machine → Report
-report m = record {
+-- `drawn`, added, is how many values cost a drawing; it is not the machine's, and whoever reports says it
+abbrev pub report : ℕ → Machine → Report
+report drawn m = record {
   status = statusOf (m .phase);
   point = m .held .x;
   value = m .held .f;
   nit = m .counters .nit;
   nfev = m .counters .nfev;
   njev = m .counters .njev;
-  drawn = m .counters .drawn;
+  drawn = drawn;
 }
+
+-- every value charged costs a drawing
+abbrev pub reportNow : Machine → Report
+reportNow m = report (m .counters .nfev) m

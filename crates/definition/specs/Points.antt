@@ -4,7 +4,7 @@ use mathlib.Core.Path.{_≡_}
 use mathlib.Core.Bool.{Bool, true, false, not, cond, _&&_}
 use mathlib.Core.List.{List, [], _∷_, _++_}
 use mathlib.Core.Option.{Option, none, some}
-use lib.Dec.{T}
+use lib.Dec.{T, eqb}
 use lib.ListN.{set}
 use lib.Ieee.{Float, lt, le}
 use lib.Ieee.Scale.{finite}
@@ -12,7 +12,7 @@ use Rattle.definition.specs.Number.{toFloat, zero64, stepLimit}
 use Rattle.definition.specs.Vector.{word}
 use Rattle.definition.specs.Problem.{Setup, Bounds, Terms, projectedStart}
 use Rattle.definition.specs.Gradient.{Probes}
-use Rattle.definition.specs.Machine.{Reply, Place, Side, Phase, Machine, question, unreported}
+use Rattle.definition.specs.Machine.{Reply, Place, Side, Phase, Machine, kindOf, question, unreported}
 use Rattle.definition.specs.Driver.{answer, run}
 use Rattle.definition.specs.Replies.{firstValue}
 
@@ -23,11 +23,7 @@ Reported s rs = unreported (run s rs .phase) ≡ false
 -- ---- the point held and its value
 
 abbrev pub atNotice : Phase → Bool
-atNotice (Phase.value w) = false
-atNotice (Phase.gradient w) = false
-atNotice (Phase.probe w i side) = false
-atNotice Phase.notice = true
-atNotice (Phase.ended t) = false
+atNotice p = eqb (kindOf p) 3
 
 abbrev pub isTrial : Place → Bool
 isTrial Place.start = false

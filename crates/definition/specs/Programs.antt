@@ -7,9 +7,9 @@ use lib.Dec.{eqb, ltb}
 use lib.ListN.{length}
 use lib.Ieee.{Float}
 use Rattle.definition.specs.Number.{toWord}
-use Rattle.definition.specs.Problem.{Refusal}
-use Rattle.definition.specs.Machine.{Machine, Report, Question, report, question, unreported, statusOf}
-use Rattle.definition.specs.Driver.{run}
+use Rattle.definition.specs.Problem.{Refusal, mostPairs, areaWords}
+use Rattle.definition.specs.Machine.{Machine, Report, Question, reportNow, question, unreported, statusOf}
+use Rattle.definition.specs.Book.{runOf}
 use Rattle.definition.specs.Record.{Lengths, Reading, plainRefusal, readRecord, bytes}
 
 -- an area and a log that are never too short
@@ -18,6 +18,16 @@ plenty = record { area = 2 ^ 32; log = 2 ^ 32 }
 
 abbrev pub mostBytes : ℕ
 mostBytes = 65_536
+
+-- the most coordinates of an input, whatever the limit on a setup; an area for them, and a log for as many words as the bytes have
+abbrev pub inputCoordinates : ℕ
+inputCoordinates = 64
+
+abbrev pub inputArea : ℕ
+inputArea = areaWords inputCoordinates mostPairs
+
+abbrev pub inputLog : ℕ
+inputLog = 8_192
 
 -- over 65,536 bytes is 17, checked first
 unfoldable pub readInput : List ℕ → Reading
@@ -30,10 +40,10 @@ pub data Printed : Type 0 where
   lines : Report → Printed
 
 abbrev pub printedFit : Machine → Printed
-printedFit m = cond (unreported (m .phase)) (Printed.refused 15) (Printed.lines (report m))
+printedFit m = cond (unreported (m .phase)) (Printed.refused 15) (Printed.lines (reportNow m))
 
 abbrev pub printedOf : Reading → Printed
-printedOf (Reading.accepted s rs) = printedFit (run s rs)
+printedOf (Reading.accepted b) = printedFit (runOf b)
 printedOf (Reading.refused c) = Printed.refused (c .number)
 printedOf (Reading.refusedAtEntry c) = Printed.refused (c .number)
 
@@ -60,7 +70,7 @@ returnFit room m none = returnEnd room m
 returnFit room m (some q) = returnPoint room (q .kind) (q .point)
 
 abbrev pub returnOf : ℕ → Reading → Returned
-returnOf room (Reading.accepted s rs) = returnFit room (run s rs) (question (run s rs))
+returnOf room (Reading.accepted b) = returnFit room (runOf b) (question (runOf b))
 returnOf room (Reading.refused c) = record { number = 100 + c .number; output = [] }
 returnOf room (Reading.refusedAtEntry c) = record { number = 100 + c .number; output = [] }
 

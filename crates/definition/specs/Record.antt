@@ -8,8 +8,8 @@ use lib.ListN.{length, getD, take, drop}
 use lib.Ieee.{Float}
 use Rattle.definition.specs.Number.{toFloat, toWord}
 use Rattle.definition.specs.Problem.{Setup, Bounds, Scheme, Refusal, Check, refuse, when, _then_, validate, dimension, areaNeeded, orElse}
-use Rattle.definition.specs.Machine.{Reply}
-use Rattle.definition.specs.Log.{logWords, Entries, entriesOf}
+use Rattle.definition.specs.Log.{Entries, entriesOf}
+use Rattle.definition.specs.Book.{Book, book, logOf}
 
 -- ---- the setup in words
 
@@ -129,9 +129,9 @@ knownVersion v = eqb v 1
 abbrev pub trailer : List ℕ → List ℕ
 trailer ws = sums ws .plain ∷ sums ws .running ∷ writtenVersion ∷ length ws ∷ []
 
--- the record of a setup and replies
-unfoldable pub recordWords : Setup → List Reply → List ℕ
-recordWords s rs = let ws = setupWords s ++ logWords rs in ws ++ trailer ws
+-- the record of a fit
+unfoldable pub recordWords : Book → List ℕ
+recordWords b = let ws = setupWords (b .setup) ++ logOf b in ws ++ trailer ws
 
 -- ---- bytes
 
@@ -153,8 +153,8 @@ unfoldable pub wordsOf : ℕ → List ℕ → List ℕ
 wordsOf zero bs = []
 wordsOf (suc count) bs = numberOf (take 8 bs) ∷ wordsOf count (drop 8 bs)
 
-unfoldable pub recordBytes : Setup → List Reply → List ℕ
-recordBytes s rs = bytes (recordWords s rs)
+unfoldable pub recordBytes : Book → List ℕ
+recordBytes b = bytes (recordWords b)
 
 -- ---- reading in, into an area and a log of these lengths
 
@@ -163,7 +163,7 @@ pub record Lengths : Type 0 where
   pub log : ℕ
 
 pub data Reading : Type 0 where
-  accepted : Setup → List Reply → Reading
+  accepted : Book → Reading
   refused : Refusal → Reading
   refusedAtEntry : Refusal → Reading
 
@@ -171,7 +171,7 @@ abbrev pub plainRefusal : ℕ → Refusal
 plainRefusal number = record { number = number; first = 0; second = 0 }
 
 abbrev pub readingOf : Setup → Entries → Reading
-readingOf s (Entries.kept rs) = Reading.accepted s rs
+readingOf s (Entries.kept rs) = Reading.accepted (book s rs)
 readingOf s (Entries.refusedAt c) = Reading.refusedAtEntry (plainRefusal c)
 readingOf s (Entries.going ws rs m) = Reading.refusedAtEntry (plainRefusal 17)
 

@@ -9,7 +9,7 @@ use lib.Ieee as Ieee
 use lib.Ieee.{Float}
 use lib.Ieee.Scale.{finite}
 use Rattle.definition.specs.Number.{minus, times, over, abs, max, magnitudeLe, zero64, pivotThreshold}
-use Rattle.definition.specs.Vector.{foldTo, word, sum, allFinite, finiteOnly}
+use Rattle.definition.specs.Vector.{foldTo, word, sum, allFinite, _andThen_, finiteOnly}
 
 abbrev pub Matrix : Type 0
 Matrix = List (List Float)
@@ -71,8 +71,7 @@ unfoldable pub onColumn : ℕ → Float → ℕ → System → Option System
 onColumn n scale k s = cond (pivots scale (entry (s .rows) k k)) (some (eliminated n k s)) none
 
 abbrev pub column : ℕ → Float → ℕ → Option System → Option System
-column n scale k none = none
-column n scale k (some s) = onColumn n scale k (swapped s k (pivotOf n (s .rows) k))
+column n scale k o = o andThen λ s. onColumn n scale k (swapped s k (pivotOf n (s .rows) k))
 
 unfoldable pub triangular : ℕ → Float → System → Option System
 triangular n scale s = foldTo n (column n scale) (some s)
@@ -86,12 +85,8 @@ backRow n s i x =
 unfoldable pub backward : ℕ → System → List Float
 backward n s = foldTo n (λ d x. backRow n s (n - (d + 1)) x) (replicate (length (s .right)) zero64)
 
-abbrev pub solvedFrom : ℕ → Option System → Option (List Float)
-solvedFrom n none = none
-solvedFrom n (some s) = finiteOnly n (backward n s)
-
 abbrev pub solvable : ℕ → Float → List Float → Bool
 solvable n scale b = finite scale && not (Ieee.eq scale zero64) && allFinite n b
 
 unfoldable pub solve : ℕ → Matrix → List Float → Option (List Float)
-solve n a b = cond (solvable n (scaleOf n a) b) (solvedFrom n (triangular n (scaleOf n a) (system a b))) none
+solve n a b = cond (solvable n (scaleOf n a) b) (triangular n (scaleOf n a) (system a b) andThen λ s. finiteOnly n (backward n s)) none

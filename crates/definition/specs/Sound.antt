@@ -1,24 +1,22 @@
 -- What is true of every fit that is held, and which refusal empties a history: the words of the theorems on histories.
 use Prim.Native.Nat.{_≤_}
 use mathlib.Core.Bool.{Bool, true, false}
-use mathlib.Core.List.{List}
 use lib.ListN.{length}
-use Rattle.definition.specs.Problem.{Setup, areaNeeded}
-use Rattle.definition.specs.Machine.{Reply}
-use Rattle.definition.specs.Log.{logWords}
+use Rattle.definition.specs.Problem.{areaNeeded}
+use Rattle.definition.specs.Book.{Book, logOf}
 use Rattle.definition.specs.Record.{Lengths, Reading, readRecord}
 use Rattle.definition.specs.History.{Call}
 use Rattle.definition.specs.Replies.{Accepted, Due}
 
 -- the setup is accepted, each reply was due when it was given, area and log are long enough
-pub record Sound (z : Lengths) (s : Setup) (rs : List Reply) : Type 0 where
-  pub accepted : Accepted s
-  pub due : Due s rs
-  pub area : areaNeeded s ≤ z .area
-  pub log : length (logWords rs) ≤ z .log
+pub record Sound (z : Lengths) (b : Book) : Type 0 where
+  pub accepted : Accepted (b .setup)
+  pub due : Due (b .setup) (b .replies)
+  pub area : areaNeeded (b .setup) ≤ z .area
+  pub log : length (logOf b) ≤ z .log
 
 abbrev pub atEntry : Reading → Bool
-atEntry (Reading.accepted s rs) = false
+atEntry (Reading.accepted b) = false
 atEntry (Reading.refused c) = false
 atEntry (Reading.refusedAtEntry c) = true
 

@@ -15,6 +15,7 @@ use Rattle.definition.specs.Solve.{Matrix, pivotOf, solve}
 use Rattle.definition.specs.Compact.{Compact, noPairs, update}
 use Rattle.definition.specs.Geometry.{Break, inserted}
 use Rattle.definition.specs.Machine.{Reply, Report}
+use Rattle.definition.specs.Book.{book}
 use Rattle.definition.specs.Record.{bytes, recordBytes}
 use Rattle.definition.specs.Programs.{Printed, printed, Returned, returned}
 
@@ -127,8 +128,8 @@ abbrev pub starred : List (Type 0)
 starred =
     -- f = x² / 2: what the report program prints, as the numbers of its six lines; that `textOf` of them is document 01's text, byte by byte, is
     -- `starred-text` of crate `text`, which defines the text. The second value is asked at 0
-    (printed (recordBytes parabola parabolaReplies) ≡ Printed.lines (reported 1 1 2 2 zero64 zero64))
-    ∷ (returned 8 (recordBytes parabola (drop 3 parabolaReplies)) ≡ valueAsked zero64)
+    (printed (recordBytes (book parabola parabolaReplies)) ≡ Printed.lines (reported 1 1 2 2 zero64 zero64))
+    ∷ (returned 8 (recordBytes (book parabola (drop 3 parabolaReplies))) ≡ valueAsked zero64)
     -- empty x0: 1; both bounds +inf: 6; lower 2, upper 1: 5
     ∷ (validate (setup [] none none none) ≡ refuse 1 0 0)
     ∷ (validate (boxed zero64 infinity infinity) ≡ refuse 6 0 0)
@@ -137,11 +138,11 @@ starred =
     ∷ (validate (setup (replicate 64 one64) none none none) ≡ none)
     ∷ (validate (setup (replicate 65 one64) none none none) ≡ refuse 10 1 0)
     -- start 5, box 0 to 2: first question at 2; first reply NaN: status 6, counts 0, 1, 0
-    ∷ (returned 8 (recordBytes (boxed five zero64 two64) []) ≡ valueAsked two64)
-    ∷ (printed (recordBytes (boxed five zero64 two64) (Reply.value (toWord nan) ∷ [])) ≡ Printed.lines (reported 6 0 1 0 nan two64))
+    ∷ (returned 8 (recordBytes (book (boxed five zero64 two64) [])) ≡ valueAsked two64)
+    ∷ (printed (recordBytes (book (boxed five zero64 two64) (Reply.value (toWord nan) ∷ []))) ≡ Printed.lines (reported 6 0 1 0 nan two64))
     -- maxfev 1, n = 1, open box, value 0, gradient not supplied: status 4, njev 0; with lower = upper: status 1, njev 1
-    ∷ (printed (recordBytes (frugal none) unsupplied) ≡ Printed.lines (reported 4 0 1 0 zero64 five))
-    ∷ (printed (recordBytes (frugal (between five five)) unsupplied) ≡ Printed.lines (reported 1 0 1 1 zero64 five))
+    ∷ (printed (recordBytes (book (frugal none) unsupplied)) ≡ Printed.lines (reported 4 0 1 0 zero64 five))
+    ∷ (printed (recordBytes (book (frugal (between five five)) unsupplied)) ≡ Printed.lines (reported 1 0 1 1 zero64 five))
     -- s = 2 ^ -52, y = 1: pair dropped; s = 2 ^ -51: kept, theta 2 ^ 51
     ∷ (onePair half^52 ≡ noPairs)
     ∷ (onePair half^51 ≡ record { pairs = record { s = half^51 ∷ []; y = one64 ∷ [] } ∷ []; theta = fin false 1 (pos 51); oldest = 0 })
@@ -167,15 +168,15 @@ break i = record { time = one64; coordinate = i }
 abbrev pub orders : List (Type 0)
 orders =
     -- between a trial's value and its gradient the old point and value are held, and so they are while the gradient is probed
-    (printed (recordBytes parabola (drop 2 parabolaReplies)) ≡ Printed.lines (reported 0 0 2 1 eight four))
-    ∷ (printed (recordBytes parabola (Reply.notSupplied ∷ drop 2 parabolaReplies)) ≡ Printed.lines (reported 0 0 3 1 eight four))
+    (printed (recordBytes (book parabola (drop 2 parabolaReplies))) ≡ Printed.lines (reported 0 0 2 1 eight four))
+    ∷ (printed (recordBytes (book parabola (Reply.notSupplied ∷ drop 2 parabolaReplies))) ≡ Printed.lines (reported 0 0 3 1 eight four))
     -- a pair that is not accepted costs no old one
     ∷ (update 1 1 fullMemory (half^52 ∷ []) (one64 ∷ []) ≡ fullMemory)
     -- a sum starts at -0
     ∷ (dot 1 (zero64 ∷ []) (minusOne ∷ []) ≡ fin true 0 (pos 0))
     -- the iteration budget comes before convergence, and stop before both
-    ∷ (printed (recordBytes oneIteration parabolaReplies) ≡ Printed.lines (reported 3 1 2 2 zero64 zero64))
-    ∷ (printed (recordBytes oneIteration (Reply.stop ∷ drop 1 parabolaReplies)) ≡ Printed.lines (reported 5 1 2 2 zero64 zero64))
+    ∷ (printed (recordBytes (book oneIteration parabolaReplies)) ≡ Printed.lines (reported 3 1 2 2 zero64 zero64))
+    ∷ (printed (recordBytes (book oneIteration (Reply.stop ∷ drop 1 parabolaReplies))) ≡ Printed.lines (reported 5 1 2 2 zero64 zero64))
     -- lower > upper comes before the bounds that admit no coordinate, and the lower side's NaN before the upper's
     ∷ (validate (boxed zero64 infinity negInfinity) ≡ refuse 5 0 0)
     ∷ (validate (setup (zero64 ∷ zero64 ∷ []) (some (record { lower = zero64 ∷ nan ∷ []; upper = nan ∷ zero64 ∷ [] })) none none) ≡ refuse 4 1 0)

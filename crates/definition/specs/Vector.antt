@@ -40,6 +40,12 @@ allFinite n v = foldTo n (λ i b. b && finite (word v i)) true
 abbrev pub difference : ℕ → List Float → List Float → List Float
 difference n a b = tab n (λ i. minus (word a i) (word b i))
 
+-- Rust's `?`: what follows is made of the value, where there is one
+infixr 20 _andThen_
+abbrev pub _andThen_ : {A B : Type 0} → Option A → (A → Option B) → Option B
+none andThen follow = none
+some a andThen follow = follow a
+
 -- the vector, if its first n places are finite
 abbrev pub finiteOnly : ℕ → List Float → Option (List Float)
 finiteOnly n v = cond (allFinite n v) (some v) none

@@ -11,7 +11,7 @@ use lib.Ieee.{Float}
 use borrow.Author.Tests.{ltb-true, leb-true, eqb-true, lt-ltb, le-leb, eq-eqb}
 use Rattle.definition.specs.Number.{zero64, one64}
 use Rattle.definition.specs.Vector.{word}
-use Rattle.definition.specs.Problem.{Setup, Terms, dimension, maxcorOf, areaWords, areaNeeded}
+use Rattle.definition.specs.Problem.{Setup, Terms, dimension, maxcorOf, mostCoordinates, areaWords, areaNeeded}
 use Rattle.definition.specs.Counters as C
 use Rattle.definition.specs.Machine as M
 use Rattle.definition.specs.Driver.{run}
@@ -24,9 +24,9 @@ use Rattle.definition.proofs.Lengths.{log-length}
 use Rattle.definition.proofs.Entries.{entries-most}
 use Rattle.area.specs.Area.{view, X0, Lower, Upper}
 use Rattle.problem.specs.Setups.{placesIn, setupIn}
-use Rattle.counters.specs.Counts.{countersOf}
+use Rattle.counters.specs.Counts.{countersOf, mostCounted}
 use Rattle.compact.specs.State.{Sound}
-use Rattle.fit.specs.State.{machineOf, phaseOf, Small}
+use Rattle.fit.specs.State.{machineOf, phaseOf}
 use Rattle.fit.proofs.Laws.{model-same}
 use Rattle.fit.specs.declared.Fit.{Fit}
 use Rattle.fit.specs.declared.Phase.{Phase}
@@ -34,7 +34,7 @@ use Rattle.fit.specs.declared.Phase.the-variants.{Value, Gradient, Probe, Notic
 use Rattle.compact.specs.declared.Shape.{Shape}
 use Rattle.measure.specs.Ready.{Ready}
 use Rattle.question.specs.Reports.{Within}
-use Rattle.driver.specs.Replies.{markAt, shapeHeld, phaseHeld, marked, isReady, isHeld, mostCounted, mostWords, Marks}
+use Rattle.driver.specs.Replies.{markAt, shapeHeld, phaseHeld, marked, isReady, isHeld, mostWords, Marks}
 
 -- ---- tests that are joined
 
@@ -57,7 +57,7 @@ and-no false b h = refl
 
 record ShapeFacts (h : Shape) (size : ℕ) : Type 0 where
   positive : 0 < h .n
-  n : h .n ≤ 64
+  n : h .n ≤ mostCoordinates
   some : 0 < h .m
   few : h .m ≤ 16
   most : h .pairs ≤ h .m
@@ -82,8 +82,8 @@ pub record ReadyFacts (t : Fit) (size : ℕ) : Type 0 where
   pub some : 0 < t .shape .m
   pub places : placesIn (t .options) ≡ t .shape .m
   pub area : areaWords (t .shape .n) (t .shape .m) ≤ size
-  pub entries : t .entries < mostWords
-  pub words : t .words < mostWords
+  pub entries : t .extra .entries < mostWords
+  pub words : t .extra .words < mostWords
 
 held-within : (p : Phase) (n : ℕ) → phaseHeld p n ≡ true → Within p n
 held-within (Value w) n h = tt
@@ -141,11 +141,10 @@ marked-machine t a b s h = model-same t s (λ q l. h .kept q (omega arith)) (λ 
 -- no count is above the number of replies and one
 counts-small :
     (t : Fit) (s : Setup) (rs : List M.Reply) → Due s rs → countersOf (t .counters) ≡ run s rs .counters → length rs < mostWords
-    → Small (t .counters) × (t .counters .njev < mostCounted)
+    → (t .counters .nit < mostCounted) × (t .counters .njev < mostCounted)
 counts-small t s rs d e h =
     let nit : t .counters .nit ≡ run s rs .counters .nit = ap (λ (k : C.Counters). k .nit) e in
     let njev : t .counters .njev ≡ run s rs .counters .njev = ap (λ (k : C.Counters). k .njev) e in
-    let drawn : t .counters .drawn ≡ run s rs .counters .drawn = ap (λ (k : C.Counters). k .drawn) e in
     omega (arith, counts-few s rs d)
 
 -- the coordinate of an open probe is below n
@@ -159,14 +158,14 @@ range-within (Ended t) n h = tt
 -- with a log that the test lets pass it passes the test, whether or not the setup is accepted
 pub few-ready :
     (t : Fit) (size : ℕ) (a : List Float) (s : Setup) (rs : List M.Reply) → Due s rs → machineOf t a ≡ run s rs → shapeHeld (t .shape) size ≡ true
-    → placesIn (t .options) ≡ t .shape .m → t .entries ≡ length rs → t .words ≡ length (logWords rs) → t .words < mostWords → isReady t size ≡ true
+    → placesIn (t .options) ≡ t .shape .m → t .extra .entries ≡ length rs → t .extra .words ≡ length (logWords rs) → t .extra .words < mostWords → isReady t size ≡ true
 few-ready t size a s rs d e h p n w few =
     let k = shape-facts (t .shape) size h in
-    let entries : t .entries < mostWords = omega (arith, entries-most rs) in
+    let entries : t .extra .entries < mostWords = omega (arith, entries-most rs) in
     let small = counts-small t s rs d (ap (λ (m : M.Machine). m .counters) e) (omega arith) in
     facts-ready t size
     (record {
-      ready = record { sound = shape-sound k; small = small .0; njev = small .1; n = k .n };
+      ready = record { sound = shape-sound k; nit = small .0; njev = small .1; n = k .n };
       within = range-within (t .phase) (t .shape .n) (subst (λ (m : M.Machine). InRange (m .phase) (m .terms .n)) (sym e) (probe-in-range s rs d));
       shape = h;
       positive = k .positive;
@@ -181,12 +180,12 @@ few-ready t size a s rs d e h p n w few =
 pub log-few : (s : Setup) (rs : List M.Reply) → Accepted s → Due s rs → length (logWords rs) < mostWords
 log-few s rs c d =
     let l = accepted-in-limits s c in
-    let n : 3 + dimension s ≤ 67 = omega (arith, l .coordinates .1) in
+    let n : 3 + dimension s ≤ 3 + mostCoordinates = omega (arith, l .coordinates .1) in
     omega (arith, log-length s rs c d, mul-le-mul n (l .maxfev .1), l .maxiter .1)
 
 pub run-ready : (t : Fit) (size : ℕ) (a : List Float) (s : Setup) (rs : List M.Reply) → Accepted s → Due s rs → machineOf t a ≡ run s rs
     → setupIn (t .options) (view a (t .shape .n) X0) (view a (t .shape .n) Lower) (view a (t .shape .n) Upper) ≡ s
-    → Sound (t .shape) size → areaNeeded s ≤ size → t .entries ≡ length rs → t .words ≡ length (logWords rs) → isReady t size ≡ true
+    → Sound (t .shape) size → areaNeeded s ≤ size → t .extra .entries ≡ length rs → t .extra .words ≡ length (logWords rs) → isReady t size ≡ true
 run-ready t size a s rs c d e o h z n w =
     let l = accepted-in-limits s c in
     let terms = ap (λ (m : M.Machine). m .terms) e ∙ terms-stay s rs d in

@@ -2,10 +2,11 @@
 use Prim.Native.Nat.{ℕ, _+_, _*_, _≤_, _<_}
 use native.Mathlib.Nat.{mul-le-mul}
 use native.Mathlib.Omega.{arith}
-use mathlib.Core.Path.{_≡_, refl, sym, ap, _∙_}
-use mathlib.Core.Bool.{Bool, true, false, cond, _&&_}
+use mathlib.Core.Path.{_≡_, refl, sym, ap, ap₂, _∙_}
+use mathlib.Core.Bool.{Bool, true, false, cond, not, _&&_}
 use mathlib.Core.List.{List, [], _∷_, map}
-use borrow.Author.Tests.{lt-ltb, le-ltb, ltb-true, leb-true, eqb-true}
+use mathlib.Core.Option.{none}
+use borrow.Author.Tests.{lt-ltb, le-ltb, ltb-true, leb-true, eqb-true, eq-eqb}
 use denote.Enum.Declared.{tagOf}
 use types.Run.{OneOf, miss}
 use lib.Dec.{ltb, leb, eqb}
@@ -15,26 +16,27 @@ use lib.Ieee as Ieee
 use lib.Ieee.{Float, nan}
 use Rattle.definition.specs.Number.{toFloat, one64}
 use Rattle.definition.specs.Vector.{word}
-use Rattle.definition.specs.Problem.{areaWords}
+use Rattle.definition.specs.Problem.{Check, refuse, when, _then_, mostCoordinates, areaWords}
 use Rattle.definition.specs.Counters.{Termination}
 use Rattle.definition.specs.Machine as M
 use Rattle.definition.specs.Driver as D
 use Rattle.definition.specs.Driver.{onGradient}
-use Rattle.area.specs.Area.{view}
+use Rattle.area.specs.Area.{Vecs, view, vectors}
 use Rattle.area.proofs.Laws.{view-set, upd-other}
 use Rattle.area.proofs.Sizes.{behind}
 use Rattle.compact.specs.declared.Shape.{Shape}
-use Rattle.problem.specs.Setups.{placesIn}
+use Rattle.problem.specs.Setups.{placesIn, checkOf}
+use Rattle.problem.specs.declared.Checked.{Checked}
 use Rattle.fit.specs.declared.Fit.{Fit}
 use Rattle.fit.specs.declared.Phase.{Phase}
 use Rattle.fit.specs.declared.Phase.the-variants.{Value, Gradient, Probe, Notice, Ended}
 use Rattle.fit.proofs.Phase.{the-type}
-use Rattle.fit.specs.State.{machineOf, phaseOf, Turns, Steps}
+use Rattle.fit.specs.State.{machine, machineOf, phaseOf, Turns, Steps}
 use Rattle.fit.proofs.Laws.{kept-refl, still, steps-as}
 use Rattle.question.specs.Reports.{Within}
 use Rattle.driver.specs.declared.Reply.{Reply}
 use Rattle.driver.specs.declared.Reply.the-variants as R
-use Rattle.driver.specs.Replies.{markAt, shapeHeld, countsHeld, logHeld, phaseHeld, isReady, isHeld, Marks, suppliedIn, replyOf, advancedIn, advanced}
+use Rattle.driver.specs.Replies.{markAt, shapeHeld, countsHeld, logHeld, phaseHeld, isReady, isHeld, Marks, suppliedIn, replied, advancedIn, advanced}
 
 -- ---- tests
 
@@ -58,10 +60,6 @@ seven a b c d e f g h =
     let t = both (a && b) c (s .0) in
     let u = both a b (t .0) in
     (u .0, u .1, t .1, s .1, r .1, q .1, p .1)
-
--- two tests that passed leave the third
-pub third : (a b c : Bool) → a ≡ true → b ≡ true → c ≡ (a && b && c)
-third a b c e q = simp (e, q)
 
 -- of five tests in a row
 one-fails : (a b c d e : Bool) → a ≡ false → false ≡ (a && b && c && d && e)
@@ -92,7 +90,7 @@ module _ (t : Fit) (size : ℕ) where
   counts = countsHeld (t .counters)
 
   abbrev log : Bool
-  log = logHeld (t .entries) (t .words)
+  log = logHeld (t .extra .entries) (t .extra .words)
 
   abbrev phase : Bool
   phase = phaseHeld (t .phase) (t .shape .n)
@@ -129,30 +127,33 @@ module _ (t : Fit) (a : List Float) where
   unfolding isHeld
   unready-unheld h = simp h
 
-  pub ready-marked : (v : Float) → v ≡ one64 → isReady t (length a) ≡ true → Ieee.eq (word a (markAt (t .shape))) v ≡ isHeld t a
+  pub ready-marked : (k : ℕ) (v : Float) → k ≡ markAt (t .shape) → v ≡ one64 → isReady t (length a) ≡ true → Ieee.eq (word a k) v ≡ isHeld t a
   unfolding isHeld
-  ready-marked v e h = rw e (simp h)
+  ready-marked k v d e h = rw (d, e) (simp h)
 
 -- ---- the mark
 
 -- where the mark stands is within the area, behind the vectors
 pub record Behind (h : Shape) (size : ℕ) : Type 0 where
   pub some : 0 < h .n
+  pub n : h .n ≤ mostCoordinates
   pub m : h .m ≤ 16
-  pub most : markAt h ≤ 80 * 64
   pub room : markAt h < size
+
+pub mark-most : (h : Shape) → h .n ≤ mostCoordinates → h .m ≤ 16 → markAt h ≤ 80 * mostCoordinates
+mark-most h n m = mul-le-mul {n₂ = 80} {m₂ = mostCoordinates} (omega arith) n
 
 pub mark-behind : (h : Shape) (size : ℕ) → shapeHeld h size ≡ true → Behind h size
 mark-behind h size e =
-    let k = seven (ltb 0 (h .n)) (leb (h .n) 64) (ltb 0 (h .m)) (leb (h .m) 16) (leb (h .pairs) (h .m)) (ltb (h .oldest) (h .m)) (leb (areaWords (h .n) (h .m)) size) e in
-    let n : h .n ≤ 64 = leb-true _ _ (k .1) in
+    let k = seven (ltb 0 (h .n)) (leb (h .n) mostCoordinates) (ltb 0 (h .m)) (leb (h .m) 16) (leb (h .pairs) (h .m)) (ltb (h .oldest) (h .m)) (leb (areaWords (h .n) (h .m)) size) e in
+    let n : h .n ≤ mostCoordinates = leb-true _ _ (k .1) in
     let r : 0 < h .m = ltb-true _ _ (k .2) in
     let m : h .m ≤ 16 = leb-true _ _ (k .3) in
     let z : areaWords (h .n) (h .m) ≤ size = leb-true _ _ (k .6) in
     record {
       some = ltb-true _ _ (k .0);
+      n = n;
       m = m;
-      most = mul-le-mul {n₂ = 80} {m₂ = 64} (omega arith) n;
       room = omega (arith, behind (h .n) (h .m));
     }
 
@@ -162,15 +163,16 @@ before-kept a n p v h q l =
     let e : p * n ≡ p * n + 0 = omega arith in
     ap (λ (k : ℕ). view (set a k v) n q) e ∙ (λ i. view-set a n p 0 v h i q) ∙ upd-other (view a n) p q (set (view a n p) 0 v) (λ d. omega arith)
 
-pub marks : (h : Shape) (a : List Float) (v : Float) → v ≡ one64 → shapeHeld h (length a) ≡ true → Marks h a (set a (markAt h) v)
+pub marks : (h : Shape) (a : List Float) (i : ℕ) (v : Float) → i ≡ markAt h → v ≡ one64 → shapeHeld h (length a) ≡ true → Marks h a (set a i v)
 unfolding Ieee.eq
-marks h a v e k =
+marks h a i v d e k =
     let b = mark-behind h (length a) k in
-    record {
+    rw d
+    (record {
       size = length-set a (markAt h) v;
       mark = ap (λ (x : Float). Ieee.eq x one64) (getD-set-same a (markAt h) v nan (b .room) ∙ e);
-      kept = before-kept a (h .n) (16 + 4 * h .m) v (b .some);
-    }
+      kept = before-kept a (h .n) (vectors (h .m)) v (b .some);
+    })
 
 -- ---- a reply's step
 
@@ -259,11 +261,46 @@ gradient-answered m ws h = go (m .phase) (eqb-true _ _ h)
     go M.Phase.notice e = absurd (omega arith)
     go (M.Phase.ended z) e = absurd (omega arith)
 
--- to any other reply
-pub other-answered : (r : Reply) (m : M.Machine) → (r ≡ R.Gradient → ⊥) → advanced r m ≡ D.answer m (replyOf r m)
-other-answered (R.Value v) m h = refl
-other-answered R.Gradient m h = absurd (h refl)
-other-answered R.NotSupplied m h = refl
-other-answered R.GoOn m h = refl
-other-answered R.Stop m h = refl
-other-answered R.Failure m h = refl
+-- ---- whether a reply is due
+
+-- the words of a gradient say nothing of its kind
+pub suits-any : (k : ℕ) (r : Reply) (ws zs : List ℕ) → M.suits k (replied r ws) ≡ M.suits k (replied r zs)
+suits-any k (R.Value v) ws zs = refl
+suits-any k R.Gradient ws zs = refl
+suits-any k R.NotSupplied ws zs = refl
+suits-any k R.GoOn ws zs = refl
+suits-any k R.Stop ws zs = refl
+suits-any k R.Failure ws zs = refl
+
+-- n words are not refused by 14
+pub right-length : (n : ℕ) (r : Reply) (ws : List ℕ) → length ws ≡ n → M.checkLength n (replied r ws) ≡ none
+right-length n (R.Value v) ws e = refl
+right-length n R.Gradient ws e = rw (eq-eqb (length ws) n e)
+right-length n R.NotSupplied ws e = refl
+right-length n R.GoOn ws e = refl
+right-length n R.Stop ws e = refl
+right-length n R.Failure ws e = refl
+
+-- the kind decides
+pub due-by-kind : (m : M.Machine) (r : Reply) (ws : List ℕ) → length ws ≡ m .terms .n → M.takes m (replied r ws) ≡ true → M.checkDue m (replied r ws) ≡ none
+due-by-kind m r ws e h = rw (h, right-length (m .terms .n) r ws e)
+
+pub undue-by-kind : (m : M.Machine) (q : M.Reply) → M.takes m q ≡ false → M.checkDue m q ≡ refuse 13 0 0
+undue-by-kind m q h = rw h
+
+-- what `check_due` says of n words, for any vectors
+abbrev pub DueSaid : Fit → Reply → Checked → Type 0
+DueSaid t r c = (v : Vecs) (ws : List ℕ) → length ws ≡ t .shape .n → checkOf c ≡ M.checkDue (machine t v) (replied r ws)
+
+kind-then : (b : Bool) (k : Check) → ((when (not b) (refuse 13 0 0) then none) then k) ≡ (when (not b) (refuse 13 0 0) then k)
+kind-then true k = refl
+kind-then false k = refl
+
+-- a gradient of other words is refused by 13 where one of n words is, and else by its length
+pub due-then : (m : M.Machine) (r : Reply) (ws zs : List ℕ) → length zs ≡ m .terms .n
+    → (M.checkDue m (replied r zs) then M.checkLength (m .terms .n) (replied r ws)) ≡ M.checkDue m (replied r ws)
+due-then m r ws zs e =
+    let rest = M.checkLength (m .terms .n) (replied r ws) in
+    ap₂ (λ (b : Bool) (k : Check). (when (not b) (refuse 13 0 0) then k) then rest)
+    (suits-any (M.kindOf (m .phase)) r zs ws) (right-length (m .terms .n) r zs e)
+    ∙ kind-then (M.takes m (replied r ws)) rest

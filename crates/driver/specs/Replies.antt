@@ -2,18 +2,19 @@
 use Prim.Native.Nat.{ℕ, _+_, _*_, _<_}
 use mathlib.Core.Path.{_≡_}
 use mathlib.Core.Bool.{Bool, true, _&&_}
-use mathlib.Core.List.{List, map}
+use mathlib.Core.List.{List}
 use lib.Dec.{eqb, ltb, leb}
 use lib.ListN.{length}
 use lib.Ieee as Ieee
 use lib.Ieee.{Float}
-use Rattle.definition.specs.Number.{toWord, one64}
+use Rattle.definition.specs.Number.{one64}
 use Rattle.definition.specs.Vector.{word}
-use Rattle.definition.specs.Problem.{areaWords}
+use Rattle.definition.specs.Problem.{mostCoordinates, areaWords}
 use Rattle.definition.specs.Machine as M
 use Rattle.definition.specs.Driver as D
-use Rattle.area.specs.Area.{view}
+use Rattle.area.specs.Area.{view, vectors}
 use Rattle.compact.specs.declared.Shape.{Shape}
+use Rattle.counters.specs.Counts.{mostCounted}
 use Rattle.counters.specs.declared.Counters.{Counters}
 use Rattle.problem.specs.Setups.{placesIn}
 use Rattle.fit.specs.declared.Fit.{Fit}
@@ -26,21 +27,17 @@ use Rattle.driver.specs.declared.Reply.the-variants as R
 
 -- where the mark stands: behind the vectors
 abbrev pub markAt : Shape → ℕ
-markAt h = (16 + 4 * h .m) * h .n
+markAt h = vectors (h .m) * h .n
 
 abbrev pub shapeHeld : Shape → ℕ → Bool
 shapeHeld h size =
-    ltb 0 (h .n) && leb (h .n) 64 && ltb 0 (h .m) && leb (h .m) 16 && leb (h .pairs) (h .m) && ltb (h .oldest) (h .m)
+    ltb 0 (h .n) && leb (h .n) mostCoordinates && ltb 0 (h .m) && leb (h .m) 16 && leb (h .pairs) (h .m) && ltb (h .oldest) (h .m)
     && leb (areaWords (h .n) (h .m)) size
 
--- no count is near where a sum would wrap
-abbrev pub mostCounted : ℕ
-mostCounted = 0x4000_0000_0000_0000
-
 abbrev pub countsHeld : Counters → Bool
-countsHeld k = ltb (k .nit) mostCounted && ltb (k .njev) mostCounted && ltb (k .drawn) mostCounted
+countsHeld k = ltb (k .nit) mostCounted && ltb (k .njev) mostCounted
 
--- nor the log's numbers
+-- the log's numbers are not near where a sum would wrap
 abbrev pub mostWords : ℕ
 mostWords = 0x0100_0000_0000_0000
 
@@ -62,7 +59,7 @@ marked h a = Ieee.eq (word a (markAt h)) one64
 -- whether a state can be advanced with an area of `size` words: what the code tests, on any words
 unfoldable pub isReady : Fit → ℕ → Bool
 isReady t size =
-    shapeHeld (t .shape) size && eqb (placesIn (t .options)) (t .shape .m) && countsHeld (t .counters) && logHeld (t .entries) (t .words)
+    shapeHeld (t .shape) size && eqb (placesIn (t .options)) (t .shape .m) && countsHeld (t .counters) && logHeld (t .extra .entries) (t .extra .words)
     && phaseHeld (t .phase) (t .shape .n)
 
 -- whether state and area hold a fit
@@ -73,18 +70,18 @@ isHeld t a = isReady t (length a) && marked (t .shape) a
 pub record Marks (h : Shape) (a b : List Float) : Type 0 where
   pub size : length b ≡ length a
   pub mark : marked h b ≡ true
-  pub kept : (q : ℕ) → q < 16 + 4 * h .m → view b (h .n) q ≡ view a (h .n) q
+  pub kept : (q : ℕ) → q < vectors (h .m) → view b (h .n) q ≡ view a (h .n) q
 
 -- ---- replies
 
--- the definition's reply; the words of a supplied gradient are those of the trial's
-abbrev pub replyOf : Reply → M.Machine → M.Reply
-replyOf (R.Value w) m = M.Reply.value w
-replyOf R.Gradient m = M.Reply.gradient (map toWord (m .trial .g))
-replyOf R.NotSupplied m = M.Reply.notSupplied
-replyOf R.GoOn m = M.Reply.goOn
-replyOf R.Stop m = M.Reply.stop
-replyOf R.Failure m = M.Reply.failure
+-- the definition's reply, with the words of a gradient beside it
+abbrev pub replied : Reply → List ℕ → M.Reply
+replied (R.Value w) ws = M.Reply.value w
+replied R.Gradient ws = M.Reply.gradient ws
+replied R.NotSupplied ws = M.Reply.notSupplied
+replied R.GoOn ws = M.Reply.goOn
+replied R.Stop ws = M.Reply.stop
+replied R.Failure ws = M.Reply.failure
 
 -- a supplied gradient is complete, where it is due
 abbrev pub suppliedIn : M.Phase → M.Machine → M.Machine

@@ -1,18 +1,24 @@
 // The driver: the test whether words hold a fit, and the step from a reply to the next question.
 ghost use mathlib.Core.Path.{_≡_};
+ghost use mathlib.Core.List.{List};
+ghost use Prim.Native.Nat.{ℕ, _≤_};
 ghost use lib.ListN.{length};
-ghost use Rattle.fit.specs.State.{Turns, Steps};
+ghost use Rattle.area.specs.Area.{Vecs};
+ghost use Rattle.problem.specs.Setups.{checkOf};
+ghost use Rattle.fit.specs.State.{machine, Turns, Steps};
 ghost use Rattle.measure.specs.Ready.{Ready};
 ghost use Rattle.question.specs.Reports.{Within};
 ghost use mathlib.Core.Bool.{true, cond};
-ghost use Rattle.definition.specs.Machine.{suits as suitsOf, Machine};
+ghost use Rattle.definition.specs.Problem.{mostCoordinates};
+ghost use Rattle.definition.specs.Machine.{suits as suitsOf, checkDue};
 ghost use Rattle.driver.specs.declared.Reply.the-variants.{Value, Gradient, NotSupplied, GoOn, Stop, Failure};
-ghost use Rattle.driver.specs.Replies.{shapeHeld, countsHeld, logHeld, phaseHeld, isReady, isHeld, Marks, replyOf, advanced};
+ghost use Rattle.driver.specs.Replies.{markAt, shapeHeld, countsHeld, logHeld, phaseHeld, isReady, isHeld, Marks, replied, advanced};
 use compact::Shape;
 use counters::Counters;
 use counters::Termination;
 use fit::Fit;
 use fit::Phase;
+use problem::Checked;
 
 // A reply; the words of a gradient stand in the area, as the trial's gradient.
 pub enum Reply {
@@ -24,10 +30,7 @@ pub enum Reply {
     Failure,
 }
 
-// No count is near where a sum would wrap.
-const MOST_COUNTED: usize = 0x4000_0000_0000_0000;
-
-// Nor are the log's numbers, in bytes.
+// The log's numbers are not near where a sum would wrap, in bytes.
 const MOST_WORDS: usize = 0x0100_0000_0000_0000;
 
 // ---- the held test
@@ -60,13 +63,10 @@ fn shape_held(h: Shape, size: usize) -> bool
 fn counts_held(k: Counters) -> bool
     ensures { λ r. ⌜ r ≡ countsHeld k ⌝ }
 {
-    if MOST_COUNTED <= k.nit {
+    if counters::MOST_COUNTED <= k.nit {
         return false;
     }
-    if MOST_COUNTED <= k.njev {
-        return false;
-    }
-    k.drawn < MOST_COUNTED
+    k.njev < counters::MOST_COUNTED
 }
 
 fn log_held(entries: usize, words: usize) -> bool
@@ -107,11 +107,19 @@ pub fn is_ready(t: Fit, size: usize) -> bool
     if !counts_held(k) {
         return false;
     }
-    if !log_held(t.entries, t.words) {
+    if !log_held(t.extra.entries, t.extra.words) {
         return false;
     }
     let p = t.phase;
     phase_held(p, h.n)
+}
+
+// Where the mark stands: behind the vectors.
+fn mark_at(h: Shape) -> usize
+    requires { ⌜ (h .n ≤ mostCoordinates) × (h .m ≤ 16) ⌝ }
+    ensures { λ r. ⌜ r ≡ markAt h ⌝ }
+{
+    (area::FIRST_PAIR + 4 * h.m) * h.n
 }
 
 // Whether state and area hold a fit, for any words at all: the mark behind the vectors is 1, which no area of zeros has.
@@ -122,7 +130,8 @@ pub fn is_held(t: Fit, area: &[f64]) -> bool
         return false;
     }
     let h = t.shape;
-    area[(16 + 4 * h.m) * h.n] == 1.0
+    let at = mark_at(h);
+    area[at] == 1.0
 }
 
 // Marks the area as holding a fit.
@@ -130,14 +139,15 @@ pub fn mark(area: &mut [f64], h: Shape)
     requires { ⌜ shapeHeld h (length (now area)) ≡ true ⌝ }
     ensures { λ _. ⌜ Marks h (now (area .entry)) (now (area .exit)) ⌝ }
 {
-    area[(16 + 4 * h.m) * h.n] = 1.0;
+    let at = mark_at(h);
+    area[at] = 1.0;
 }
 
 // ---- replies
 
 // Whether a reply of this kind suits a question of kind `due`.
-pub fn suits(due: usize, r: Reply) -> bool
-    ensures { λ b. ⌜ ((m : Machine) → b ≡ suitsOf due (replyOf r m)) ⌝ }
+fn suits(due: usize, r: Reply) -> bool
+    ensures { λ b. ⌜ ((ws : List ℕ) → b ≡ suitsOf due (replied r ws)) ⌝ }
 {
     match r {
         Reply::Value(_) => due == 1,
@@ -147,6 +157,17 @@ pub fn suits(due: usize, r: Reply) -> bool
         Reply::Stop => due == 3,
         Reply::Failure => due != 0,
     }
+}
+
+// 13 where a reply is not due: the fit has ended, or the open question is of another kind. Whether a gradient has n words is asked where they stand.
+pub fn check_due(t: Fit, r: Reply) -> Checked
+    ensures { λ c. ⌜ ((v : Vecs) (ws : List ℕ) → length ws ≡ t .shape .n → checkOf c ≡ checkDue (machine t v) (replied r ws)) ⌝ }
+{
+    let p = t.phase;
+    if suits(question::kind_of(p), r) {
+        return Checked::Passed;
+    }
+    problem::refused(13, 0, 0)
 }
 
 // A value, at a place or at a probe.

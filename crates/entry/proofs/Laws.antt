@@ -16,13 +16,14 @@ use Rattle.definition.specs.Number.{toWord}
 use Rattle.definition.specs.Problem as P
 use Rattle.definition.specs.Problem.{Setup, refuse, when, _then_, dimension}
 use Rattle.definition.specs.Machine as M
-use Rattle.definition.specs.Machine.{Machine, Phase, Question, questionIn, question, statusOf, unreported, report}
+use Rattle.definition.specs.Machine.{Machine, Phase, Question, questionIn, question, statusOf, unreported, reportNow}
 use Rattle.definition.specs.Driver.{run}
 use Rattle.definition.specs.Record.{Reading, plainRefusal, bytes}
 use Rattle.definition.specs.Replies.{Accepted}
 use Rattle.definition.specs.History as H
-use Rattle.definition.specs.History.{Call, History, outputShort, checkQuestion, answerUnless}
-use Rattle.definition.specs.Programs.{readInput, returnPoint, returnEnd, returnFit, returnOf}
+use Rattle.definition.specs.Book.{Book, runOf}
+use Rattle.definition.specs.History.{Call, mostRefusal, outputShort, checkQuestion, refusedBy}
+use Rattle.definition.specs.Programs.{inputCoordinates, readInput, returnPoint, returnEnd, returnFit, returnOf}
 use Rattle.definition.proofs.Accepted.{accepted-in-limits}
 use Rattle.problem.specs.Setups.{refusalOf}
 use Rattle.problem.specs.declared.Refusal.{Refusal}
@@ -57,25 +58,27 @@ module _ (number n : ℕ) (x : List Float) (out : List ℕ) (h : n ≤ length x)
       let size = length-take-le n x h in
       rw (le-ltb (length out) (8 * length (take n x)) (omega (arith, size))) (record { number = refl; output = e })
 
--- ---- what is answered for a fit that is held, with room for 64 coordinates
+-- ---- what is answered for a fit that is held, with room for its coordinates
 
-module _ (room : ℕ) (s : Setup) (rs : List M.Reply) (a : Accepted s) (h : 64 ≤ room) where
-  fits : ltb room (dimension s) ≡ false
-  fits = le-ltb room (dimension s) (omega (arith, accepted-in-limits s a .coordinates .1))
+module _ (room : ℕ) (b : Book) (a : Accepted (b .setup)) (h : P.mostCoordinates ≤ room) where
+  fits : ltb room (dimension (b .setup)) ≡ false
+  fits = le-ltb room (dimension (b .setup)) (omega (arith, accepted-in-limits (b .setup) a .coordinates .1))
 
-  pub question-answered : answerUnless (checkQuestion s room (question (run s rs))) (History.fit s rs) (Call.question room) ≡ H.Answer.asked (question (run s rs))
-  question-answered = go (question (run s rs))
+  pub question-answered : refusedBy (checkQuestion b room (question (runOf b))) (H.Answer.asked (question (runOf b))) ≡ H.Answer.asked (question (runOf b))
+  question-answered = go (question (runOf b))
     where
-      go : (q : Option Question) → answerUnless (checkQuestion s room q) (History.fit s rs) (Call.question room) ≡ H.Answer.asked (question (run s rs))
+      go : (q : Option Question) → refusedBy (checkQuestion b room q) (H.Answer.asked (question (runOf b))) ≡ H.Answer.asked (question (runOf b))
       go none = refl
       go (some q) = rw fits
 
-  pub report-answered : answerUnless (when (unreported (run s rs .phase)) (refuse 15 0 0) then outputShort room (dimension s)) (History.fit s rs) (Call.report room)
-      ≡ cond (unreported (run s rs .phase)) (H.Answer.refused (plainRefusal 15)) (H.Answer.reported (report (run s rs)))
-  report-answered = go (unreported (run s rs .phase))
+  abbrev whole : H.Answer
+  whole = H.Answer.reported (reportNow (runOf b))
+
+  pub report-answered : refusedBy (when (unreported (runOf b .phase)) (refuse 15 0 0) then outputShort room (dimension (b .setup))) whole
+      ≡ cond (unreported (runOf b .phase)) (H.Answer.refused (plainRefusal 15)) whole
+  report-answered = go (unreported (runOf b .phase))
     where
-      go : (t : Bool) → answerUnless (when t (refuse 15 0 0) then outputShort room (dimension s)) (History.fit s rs) (Call.report room)
-          ≡ cond t (H.Answer.refused (plainRefusal 15)) (H.Answer.reported (report (run s rs)))
+      go : (t : Bool) → refusedBy (when t (refuse 15 0 0) then outputShort room (dimension (b .setup))) whole ≡ cond t (H.Answer.refused (plainRefusal 15)) whole
       go true = refl
       go false = rw fits
 
@@ -90,12 +93,12 @@ ended-status m (Phase.ended t) e = refl
 
 module _ (m : Machine) (room n : ℕ) (p : List Float) (out : List ℕ) (e : HasEnded m) where
   abbrev Reported : Told → Type 0
-  Reported t = told t n p ≡ cond (unreported (m .phase)) (H.Answer.refused (plainRefusal 15)) (H.Answer.reported (report m))
+  Reported t = told t n p ≡ cond (unreported (m .phase)) (H.Answer.refused (plainRefusal 15)) (H.Answer.reported (reportNow m))
 
   pub end-failed : (t : Told) (c : Refusal) → t ≡ T.Refused c → Reported t → Returns (returnEnd room m) 0 out out
   end-failed t c q h = rw (sym (ended-status m (m .phase) e)) (go (unreported (m .phase)) (sym (ap (λ (x : Told). told x n p) q) ∙ h))
     where
-      go : (b : Bool) → H.Answer.refused (refusalOf c) ≡ cond b (H.Answer.refused (plainRefusal 15)) (H.Answer.reported (report m))
+      go : (b : Bool) → H.Answer.refused (refusalOf c) ≡ cond b (H.Answer.refused (plainRefusal 15)) (H.Answer.reported (reportNow m))
           → Returns (cond b (record { number = 0; output = [] }) (returnPoint room 0 (m .held .x))) 0 out out
       go true h = record { number = refl; output = refl }
       go false h = let z : _≡_ {A = ℕ} 0 1 = cc in absurd (omega arith)
@@ -104,11 +107,11 @@ module _ (m : Machine) (room n : ℕ) (p : List Float) (out : List ℕ) (e : Has
       → Returns (returnEnd room m) r out out′
   end-put t o r out′ q h k = rw (sym (ended-status m (m .phase) e)) (go (unreported (m .phase)) (sym (ap (λ (x : Told). told x n p) q) ∙ h))
     where
-      go : (b : Bool) → H.Answer.reported (reportOf o (take n p)) ≡ cond b (H.Answer.refused (plainRefusal 15)) (H.Answer.reported (report m))
+      go : (b : Bool) → H.Answer.reported (reportOf o (take n p)) ≡ cond b (H.Answer.refused (plainRefusal 15)) (H.Answer.reported (reportNow m))
           → Returns (cond b (record { number = 0; output = [] }) (returnPoint room 0 (m .held .x))) r out out′
       go true h = let z : _≡_ {A = ℕ} 0 1 = cc in absurd (omega arith)
       go false h =
-          let same : reportOf o (take n p) ≡ report m = cc in
+          let same : reportOf o (take n p) ≡ reportNow m = cc in
           subst (λ (x : List Float). Returns (returnPoint room 0 x) r out out′) (ap (λ (x : M.Report). x .point) same) k
 
 -- ---- the open question
@@ -135,20 +138,20 @@ fit-ended m room r out out′ e h = rw e h
 -- ---- what is read
 
 module _ (a : List Float) (l : List ℕ) where
-  small : (d : Reading) (f : Fit) → Taken d (A.Kept f) a l → f .shape .n ≤ 64
-  small (Reading.accepted s rs) f h = omega (arith, ready-facts f (length a) (held-ready f a (h .stands .test)) .ready)
+  small : (d : Reading) (f : Fit) → Taken d (A.Kept f) a l → f .shape .n ≤ inputCoordinates
+  small (Reading.accepted b) f h = omega (arith, ready-facts f (length a) (held-ready f a (h .stands .test)) .ready)
   small (Reading.refused c) f h = absurd h
   small (Reading.refusedAtEntry c) f h = absurd h
 
-  pub read-small : (d : Reading) (r : Answer) (f : Fit) → r ≡ A.Kept f → Taken d r a l → f .shape .n ≤ 64
+  pub read-small : (d : Reading) (r : Answer) (f : Fit) → r ≡ A.Kept f → Taken d r a l → f .shape .n ≤ inputCoordinates
   read-small d r f e h = small d f (subst (λ (x : Answer). Taken d x a l) e h)
 
   abbrev Fitted : Fit → ℕ → ℕ → List ℕ → List ℕ → Type 0
   Fitted f room k out out′ =
-      (l : List ℕ) (s : Setup) (rs : List M.Reply) → Held (words f a l) s rs → Returns (returnFit room (run s rs) (question (run s rs))) k out out′
+      (l : List ℕ) (b : Book) → Held (words f a l) b → Returns (returnFit room (runOf b) (question (runOf b))) k out out′
 
   kept : (d : Reading) (f : Fit) (room k : ℕ) (out out′ : List ℕ) → Taken d (A.Kept f) a l → Fitted f room k out out′ → Returns (returnOf room d) k out out′
-  kept (Reading.accepted s rs) f room k out out′ h g = g l s rs h
+  kept (Reading.accepted b) f room k out out′ h g = g l b h
   kept (Reading.refused c) f room k out out′ h g = absurd h
   kept (Reading.refusedAtEntry c) f room k out out′ h g = absurd h
 
@@ -156,16 +159,16 @@ module _ (a : List Float) (l : List ℕ) where
       → Returns (returnOf room d) k out out′
   read-kept d r f room k out out′ e h g = kept d f room k out out′ (subst (λ (x : Answer). Taken d x a l) e h) g
 
-  few : (d : Reading) (c : Refusal) → ReadNumbered d → Taken d (A.Refused c) a l → c .number ≤ 19
-  few (Reading.accepted s rs) c n h = absurd h
+  few : (d : Reading) (c : Refusal) → ReadNumbered d → Taken d (A.Refused c) a l → c .number ≤ mostRefusal
+  few (Reading.accepted b) c n h = absurd h
   few (Reading.refused k) c n h = omega (arith, ap (λ (x : P.Refusal). x .number) h, table-numbers (Call.restore []) (k .number) n .1)
   few (Reading.refusedAtEntry k) c n h = omega (arith, ap (λ (x : P.Refusal). x .number) h, table-numbers (Call.restore []) (k .number) (restores (Reading.refusedAtEntry k) n) .1)
 
-  pub read-few : (bs : List ℕ) (r : Answer) (c : Refusal) → r ≡ A.Refused c → Taken (readInput bs) r a l → c .number ≤ 19
+  pub read-few : (bs : List ℕ) (r : Answer) (c : Refusal) → r ≡ A.Refused c → Taken (readInput bs) r a l → c .number ≤ mostRefusal
   read-few bs r c e h = few (readInput bs) c (input-numbered bs) (subst (λ (x : Answer). Taken (readInput bs) x a l) e h)
 
   refused : (d : Reading) (c : Refusal) (room : ℕ) (out : List ℕ) → Taken d (A.Refused c) a l → Returns (returnOf room d) (100 + c .number) out out
-  refused (Reading.accepted s rs) c room out h = absurd h
+  refused (Reading.accepted b) c room out h = absurd h
   refused (Reading.refused k) c room out h = record { number = ap (λ (x : P.Refusal). 100 + x .number) h; output = refl }
   refused (Reading.refusedAtEntry k) c room out h = record { number = ap (λ (x : P.Refusal). 100 + x .number) h; output = refl }
 

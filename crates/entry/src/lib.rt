@@ -4,11 +4,10 @@ ghost use mathlib.Core.List.{List, map};
 ghost use Prim.Native.Nat.{ℕ, _*_, _≤_};
 ghost use lib.ListN.{length, take};
 ghost use Rattle.definition.specs.Number.{toWord};
-ghost use Rattle.definition.specs.Problem.{Setup};
-ghost use Rattle.definition.specs.Machine.{Reply, question};
-ghost use Rattle.definition.specs.Driver.{run};
+ghost use Rattle.definition.specs.Machine.{question};
+ghost use Rattle.definition.specs.Book.{Book, runOf};
 ghost use Rattle.definition.specs.Record.{bytes};
-ghost use Rattle.definition.specs.Programs.{returnPoint, returnEnd, returnFit, returned};
+ghost use Rattle.definition.specs.Programs.{inputCoordinates, returnPoint, returnEnd, returnFit, returned};
 ghost use Rattle.question.specs.Reports.{written};
 ghost use Rattle.lbfgsb.specs.Words.{words, Held};
 ghost use Rattle.entry.specs.Entry.{Returns, HasEnded};
@@ -43,10 +42,10 @@ fn put_point(out: &mut [u8], number: u64, point: &[f64], n: usize) -> u64
 
 // What stands in the output where nothing is asked: the held point, and nothing after a failure.
 fn ended(fit: Fit, area: &[f64], out: &mut [u8]) -> u64
-    requires { ⌜ fit .shape .n ≤ 64 ⌝ }
-    ensures { λ r. ⌜ ((l : List ℕ) (s : Setup) (rs : List Reply) → Held (words fit (now (area .entry)) l) s rs → HasEnded (run s rs) → Returns (returnEnd (length (now (out .entry))) (run s rs)) r (now (out .entry)) (now (out .exit))) ⌝ }
+    requires { ⌜ fit .shape .n ≤ inputCoordinates ⌝ }
+    ensures { λ r. ⌜ ((l : List ℕ) (b : Book) → Held (words fit (now (area .entry)) l) b → HasEnded (runOf b) → Returns (returnEnd (length (now (out .entry))) (runOf b)) r (now (out .entry)) (now (out .exit))) ⌝ }
 {
-    let mut point = [0.0f64; 64];
+    let mut point = [0.0f64; input::COORDINATES];
     let told = lbfgsb::report(fit, area, &mut point);
     let Told::Is(_) = told else {
         return 0;
@@ -56,10 +55,10 @@ fn ended(fit: Fit, area: &[f64], out: &mut [u8]) -> u64
 
 // What stands in the output of a fit: the point of the open question, or the end's.
 fn answer(fit: Fit, area: &[f64], out: &mut [u8]) -> u64
-    requires { ⌜ fit .shape .n ≤ 64 ⌝ }
-    ensures { λ r. ⌜ ((l : List ℕ) (s : Setup) (rs : List Reply) → Held (words fit (now (area .entry)) l) s rs → Returns (returnFit (length (now (out .entry))) (run s rs) (question (run s rs))) r (now (out .entry)) (now (out .exit))) ⌝ }
+    requires { ⌜ fit .shape .n ≤ inputCoordinates ⌝ }
+    ensures { λ r. ⌜ ((l : List ℕ) (b : Book) → Held (words fit (now (area .entry)) l) b → Returns (returnFit (length (now (out .entry))) (runOf b) (question (runOf b))) r (now (out .entry)) (now (out .exit))) ⌝ }
 {
-    let mut point = [0.0f64; 64];
+    let mut point = [0.0f64; input::COORDINATES];
     let asked = lbfgsb::question(fit, area, &mut point);
     let Asked::Is(kind) = asked else {
         return ended(fit, area, out);

@@ -1,6 +1,6 @@
 -- Laws of `specs/State.antt`: how `Turns` and `Steps` join, and what leaves the machine as it was. Assumes nothing.
 use mathlib.Core.Path.{_≡_, refl, ap, _∙_}
-use mathlib.Core.List.{List, []}
+use mathlib.Core.List.{List}
 use mathlib.Core.Option.{some}
 use Prim.Native.Nat.{ℕ, _+_, _*_, _≤_, _<_}
 use native.Mathlib.Omega.{arith}
@@ -9,9 +9,9 @@ use Rattle.definition.specs.Compact.{Compact, Pair, wrap}
 use Rattle.definition.specs.Counters as C
 use Rattle.definition.specs.Machine as M
 use Rattle.definition.specs.Driver.{askValue}
-use Rattle.area.specs.Area.{Vecs, view, upd, ScratchOnly, X, G, Lower, Upper, X0, Trial, TrialGradient, Direction}
-use Rattle.counters.specs.declared.Counters.{Counters}
-use Rattle.counters.specs.Counts.{countersOf, valueCharge}
+use Rattle.area.specs.Area.{Vecs, view, upd, firstPair, firstColumn, vectors, FreeKept, ScratchOnly, Saved, X, G, Lower, Upper, X0, Trial, TrialGradient, Direction}
+use Rattle.area.proofs.Laws.{saved-refl, saved-trans, saved-scratch}
+use Rattle.counters.specs.Counts.{valueCharge}
 use Rattle.counters.proofs.Laws.{charge-made}
 use Rattle.compact.specs.declared.Shape.{Shape}
 use Rattle.compact.specs.State.{pairSlot, pairAt, pairsOf, compactOf, Sound}
@@ -19,18 +19,17 @@ use Rattle.compact.proofs.Laws.{tab-same, place-below, vector-room}
 use Rattle.compact.proofs.Models as models
 use Rattle.fit.specs.declared.Fit.{Fit}
 use Rattle.fit.specs.declared.Phase.{Phase}
-use Rattle.fit.specs.State.{machine, machineWith, machineOf, phaseOf, withPhase, Small, Kept, Turns, Steps}
+use Rattle.fit.specs.State.{machine, machineWith, machineOf, phaseOf, withPhase, Kept, Turns, Steps}
 
 -- ---- what is not the machine's
 
 pub kept-refl : {t : Fit} → Kept t t
-kept-refl = record { options = refl; entries = refl; words = refl; settled = λ s. s }
+kept-refl = record { options = refl; extra = refl; settled = λ s. s }
 
 pub kept-trans : {t s r : Fit} → Kept t s → Kept s r → Kept t r
 kept-trans h k = record {
   options = k .options ∙ h .options;
-  entries = k .entries ∙ h .entries;
-  words = k .words ∙ h .words;
+  extra = k .extra ∙ h .extra;
   settled = λ s. k .settled (h .settled s);
 }
 
@@ -53,15 +52,15 @@ turns-then {G = G} h k = record {
 }
 
 pub phased : {p : Phase} {t r : Fit} → r ≡ withPhase p t → Turns (M.inPhase (phaseOf p)) t r
-phased e = same-fit e (record { shape = refl; kept = record { options = refl; entries = refl; words = refl; settled = λ s. s }; is = λ v. refl })
+phased e = same-fit e (record { shape = refl; kept = record { options = refl; extra = refl; settled = λ s. s }; is = λ v. refl })
 
 -- ---- vectors that give the same machine
 
 -- one of the first sixteen vectors replaced
-pub pairs-kept : (h : Shape) (v : Vecs) (p : ℕ) (w : List Float) → p < 16 → pairsOf h (upd v p w) ≡ pairsOf h v
+pub pairs-kept : (h : Shape) (v : Vecs) (p : ℕ) (w : List Float) → p < firstPair → pairsOf h (upd v p w) ≡ pairsOf h v
 pairs-kept h v p w l = models.pairs-kept h v (upd v p w) (models.high-upd v p w l)
 
-pub put : (t : Fit) (v : Vecs) (p : ℕ) (w : List Float) → p < 16 → machine t (upd v p w) ≡ machineWith (pairsOf (t .shape) v) t (upd v p w)
+pub put : (t : Fit) (v : Vecs) (p : ℕ) (w : List Float) → p < firstPair → machine t (upd v p w) ≡ machineWith (pairsOf (t .shape) v) t (upd v p w)
 put t v p w l = ap (λ (ps : List Pair). machineWith ps t (upd v p w)) (pairs-kept (t .shape) v p w l)
 
 -- vectors that agree in the first eight
@@ -85,7 +84,7 @@ pub scratch-same : (t : Fit) {v w : Vecs} → ScratchOnly v w → machine t w �
 scratch-same t {v} {w} h = same t v w (models.pairs-kept (t .shape) v w (h .high)) (h .low)
 
 -- the pairs stand below the columns
-pub pairs-same : (h : Shape) {size : ℕ} (v w : Vecs) → Sound h size → ((q : ℕ) → 16 ≤ q → q < 16 + 2 * h .m → w q ≡ v q) → pairsOf h w ≡ pairsOf h v
+pub pairs-same : (h : Shape) {size : ℕ} (v w : Vecs) → Sound h size → ((q : ℕ) → firstPair ≤ q → q < firstColumn (h .m) → w q ≡ v q) → pairsOf h w ≡ pairsOf h v
 unfolding pairsOf
 pairs-same h v w r k =
     tab-same (h .pairs) (pairAt h w) (pairAt h v)
@@ -95,14 +94,14 @@ pairs-same h v w r k =
 
 -- only scratch and the columns are written
 pub model-same : (t : Fit) {size : ℕ} {v w : Vecs} → Sound (t .shape) size → ((q : ℕ) → q < 8 → w q ≡ v q)
-    → ((q : ℕ) → 16 ≤ q → q < 16 + 2 * t .shape .m → w q ≡ v q) → machine t w ≡ machine t v
+    → ((q : ℕ) → firstPair ≤ q → q < firstColumn (t .shape .m) → w q ≡ v q) → machine t w ≡ machine t v
 model-same t {v = v} {w = w} r l h = same t v w (pairs-same (t .shape) v w r h) l
 
 -- ---- steps
 
 -- the vectors become w, then the fit s is taken through F
 pub stepped : {F G : M.Machine → M.Machine} {w : Vecs} {t s r : Fit} {a b : List Float}
-    → Turns F s r → s .shape ≡ t .shape → Kept t s → view b (t .shape .n) ≡ w → w X0 ≡ view a (t .shape .n) X0
+    → Turns F s r → s .shape ≡ t .shape → Kept t s → view b (t .shape .n) ≡ w → Saved (view a (t .shape .n)) w
     → F (machine s w) ≡ G (machineOf t a) → Steps G t a r b
 stepped {F} {G} {w} {t} {s} {r} {a} {b} h q k e x g =
     let d : r .shape ≡ t .shape = h .shape ∙ q in
@@ -111,7 +110,7 @@ stepped {F} {G} {w} {t} {s} {r} {a} {b} h q k e x g =
       m = ap (λ (z : Shape). z .m) d;
       sound = λ size l. rw d l;
       kept = kept-trans k (h .kept);
-      x0 = ap (λ (v : Vecs). v X0) e ∙ x;
+      saved = rw e x;
       is =
           ap (λ (z : Shape). machine r (view b (z .n))) d
           ∙ h .is (view b (t .shape .n))
@@ -121,16 +120,16 @@ stepped {F} {G} {w} {t} {s} {r} {a} {b} h q k e x g =
 
 -- the vectors become w, and the fit r
 pub moved : {G : M.Machine → M.Machine} {w : Vecs} {t r : Fit} {a b : List Float}
-    → r .shape ≡ t .shape → Kept t r → view b (t .shape .n) ≡ w → w X0 ≡ view a (t .shape .n) X0 → machine r w ≡ G (machineOf t a) → Steps G t a r b
+    → r .shape ≡ t .shape → Kept t r → view b (t .shape .n) ≡ w → Saved (view a (t .shape .n)) w → machine r w ≡ G (machineOf t a) → Steps G t a r b
 moved {r = r} q k e x g = stepped {F = λ (m : M.Machine). m} {s = r} (record { shape = refl; kept = kept-refl; is = λ v. refl }) q k e x g
 
 -- the area stays
 pub still : {F G : M.Machine → M.Machine} {t r : Fit} {a : List Float} → Turns F t r → F (machineOf t a) ≡ G (machineOf t a) → Steps G t a r a
-still h e = stepped h refl kept-refl refl refl e
+still h e = stepped h refl kept-refl refl saved-refl e
 
 -- G does to this machine what F does
 pub steps-as : {F G : M.Machine → M.Machine} {t r : Fit} {a b : List Float} → Steps F t a r b → F (machineOf t a) ≡ G (machineOf t a) → Steps G t a r b
-steps-as h e = record { n = h .n; m = h .m; sound = h .sound; kept = h .kept; x0 = h .x0; is = h .is ∙ e }
+steps-as h e = record { n = h .n; m = h .m; sound = h .sound; kept = h .kept; saved = h .saved; is = h .is ∙ e }
 
 -- one after the other
 pub steps-then : {F G : M.Machine → M.Machine} {t s r : Fit} {a b d : List Float} → Steps F t a s b → Steps G s b r d → Steps (λ (m : M.Machine). G (F m)) t a r d
@@ -139,7 +138,7 @@ steps-then {G = G} h k = record {
   m = k .m ∙ h .m;
   sound = λ size l. k .sound size (h .sound size l);
   kept = kept-trans (h .kept) (k .kept);
-  x0 = (rw (h .n) at (k .x0)) ∙ h .x0;
+  saved = saved-trans (h .saved) (rw (h .n) at (k .saved));
   is = k .is ∙ ap G (h .is);
 }
 
@@ -151,29 +150,29 @@ steps-from h q k e = record {
   m = h .m ∙ ap (λ (z : Shape). z .m) q;
   sound = λ size l. h .sound size (rw q l);
   kept = kept-trans k (h .kept);
-  x0 = rw q at (h .x0);
+  saved = rw q at (h .saved);
   is = h .is ∙ e;
 }
 
 pub steps-at : {F G : M.Machine → M.Machine} {t r : Fit} {a b d : List Float} {w : Vecs}
-    → Steps F t b r d → view b (t .shape .n) ≡ w → w X0 ≡ view a (t .shape .n) X0 → F (machine t w) ≡ G (machineOf t a) → Steps G t a r d
+    → Steps F t b r d → view b (t .shape .n) ≡ w → Saved (view a (t .shape .n)) w → F (machine t w) ≡ G (machineOf t a) → Steps G t a r d
 steps-at {F = F} {t = t} h e x g = record {
   n = h .n;
   m = h .m;
   sound = h .sound;
   kept = h .kept;
-  x0 = h .x0 ∙ ap (λ (v : Vecs). v X0) e ∙ x;
+  saved = saved-trans x (rw e at (h .saved));
   is = h .is ∙ ap (λ (v : Vecs). F (machine t v)) e ∙ g;
 }
 
 -- the machine stays, where only scratch, or scratch and the columns, are written
 pub scratch-stays : {t : Fit} {a b : List Float} → ScratchOnly (view a (t .shape .n)) (view b (t .shape .n)) → Steps (λ (m : M.Machine). m) t a t b
-scratch-stays {t} h = moved refl kept-refl refl (h .low X0 (omega arith)) (scratch-same t h)
+scratch-stays {t} h = moved refl kept-refl refl (saved-scratch h) (scratch-same t h)
 
 pub model-stays : {t : Fit} {size : ℕ} {a b : List Float} → Sound (t .shape) size
-    → ((q : ℕ) → q < 8 → view b (t .shape .n) q ≡ view a (t .shape .n) q)
-    → ((q : ℕ) → 16 ≤ q → q < 16 + 2 * t .shape .m → view b (t .shape .n) q ≡ view a (t .shape .n) q) → Steps (λ (m : M.Machine). m) t a t b
-model-stays {t} r l h = moved refl kept-refl refl (l X0 (omega arith)) (model-same t r l h)
+    → ((q : ℕ) → q < 8 → view b (t .shape .n) q ≡ view a (t .shape .n) q) → FreeKept (view a (t .shape .n)) (view b (t .shape .n))
+    → ((q : ℕ) → firstPair ≤ q → q < firstColumn (t .shape .m) → view b (t .shape .n) q ≡ view a (t .shape .n) q) → Steps (λ (m : M.Machine). m) t a t b
+model-stays {t} r l f h = moved refl kept-refl refl (record { x0 = l X0 (omega arith); free = f }) (model-same t r l h)
 
 -- ---- another compact form
 
@@ -192,20 +191,19 @@ withRing h theta t = record {
   right = t .right;
   before = t .before;
   theta = theta;
-  entries = t .entries;
-  words = t .words;
+  extra = t .extra;
 }
 
 pub compacted : {t : Fit} {h : Shape} {theta : Float} {c : Compact} {a b : List Float}
     → h .n ≡ t .shape .n → h .m ≡ t .shape .m → ((size : ℕ) → Sound (t .shape) size → Sound h size)
     → compactOf h theta (view b (t .shape .n)) ≡ c → ((q : ℕ) → q < 8 → view b (t .shape .n) q ≡ view a (t .shape .n) q)
-    → Steps (M.withCompact c) t a (withRing h theta t) b
-compacted {t} {h} {theta} {c} {a} {b} n m s e l = record {
+    → FreeKept (view a (t .shape .n)) (view b (t .shape .n)) → Steps (M.withCompact c) t a (withRing h theta t) b
+compacted {t} {h} {theta} {c} {a} {b} n m s e l f = record {
   n = n;
   m = m;
   sound = s;
-  kept = record { options = refl; entries = refl; words = refl; settled = λ s. s };
-  x0 = l X0 (omega arith);
+  kept = record { options = refl; extra = refl; settled = λ s. s };
+  saved = record { x0 = l X0 (omega arith); free = f };
   is =
       ap (λ (k : ℕ). machine (withRing h theta t) (view b k)) n
       ∙ low-same (pairsOf h (view b (t .shape .n))) (withRing h theta t) (view a (t .shape .n)) (view b (t .shape .n)) l
@@ -219,29 +217,13 @@ pub charge-asks : (p : M.Phase) (m : M.Machine) (k : C.Counters) → some k ≡ 
 unfolding askValue
 charge-asks p m k e = let h = charge-made (m .limits) (m .counters) k e in rw (h .0, h .1)
 
-pub small-as : {k c : Counters} → c .nit ≡ k .nit → c .drawn ≡ k .drawn → Small k → Small c
-small-as e q s = record { nit = rw e (s .nit); drawn = rw q (s .drawn) }
-
-same-counts : (t r : Fit) → countersOf (r .counters) ≡ countersOf (t .counters) → Small (t .counters) → Small (r .counters)
-same-counts t r e s = small-as (λ i. e i .nit) (λ i. e i .drawn) s
-
--- counters that the definition keeps are kept
-pub small-kept : {F : M.Machine → M.Machine} {t r : Fit} {a b : List Float} → Steps F t a r b → ((m : M.Machine) → F m .counters ≡ m .counters)
-    → Small (t .counters) → Small (r .counters)
-small-kept {t = t} {r = r} {a = a} h k s = same-counts t r (ap (λ (m : M.Machine). m .counters) (h .is) ∙ k (machineOf t a)) s
-
-pub small-turned : {F : M.Machine → M.Machine} {t r : Fit} → Turns F t r → ((m : M.Machine) → F m .counters ≡ m .counters) → Small (t .counters) → Small (r .counters)
-small-turned {t = t} {r = r} h k s =
-    let v = view [] 0 in
-    same-counts t r (ap (λ (m : M.Machine). m .counters) (h .is v) ∙ k (machine t v)) s
-
 -- ---- room
 
-pub slot-room : {h : Shape} {size : ℕ} (k : ℕ) → Sound h size → k < 16 + 4 * h .m → k * h .n + h .n ≤ size
+pub slot-room : {h : Shape} {size : ℕ} (k : ℕ) → Sound h size → k < vectors (h .m) → k * h .n + h .n ≤ size
 slot-room k r l = vector-room k r l
 
-pub low-room : {h : Shape} {size : ℕ} (p : ℕ) → Sound h size → p < 16 → p * h .n + h .n ≤ size
+pub low-room : {h : Shape} {size : ℕ} (p : ℕ) → Sound h size → p < firstPair → p * h .n + h .n ≤ size
 low-room p r l = vector-room p r (omega arith)
 
-pub first-room : {h : Shape} {size : ℕ} → Sound h size → 16 * h .n ≤ size
+pub first-room : {h : Shape} {size : ℕ} → Sound h size → firstPair * h .n ≤ size
 first-room r = omega (arith, r .all)

@@ -1,5 +1,5 @@
 -- The definition's machine, read off a fit and the vectors of its area.
-use Prim.Native.Nat.{ℕ, _<_}
+use Prim.Native.Nat.{ℕ}
 use mathlib.Core.Path.{_≡_}
 use mathlib.Core.List.{List}
 use lib.Ieee.{Float}
@@ -8,10 +8,9 @@ use Rattle.definition.specs.Compact as C
 use Rattle.definition.specs.Machine as M
 use Rattle.problem.specs.Setups.{floatOf, schemeOf, limitsOf}
 use Rattle.counters.specs.Counts.{countersOf, terminationOf}
-use Rattle.counters.specs.declared.Counters.{Counters}
 use Rattle.search.specs.State.{searchOf, Settled}
 use Rattle.compact.specs.State.{pairsOf, Sound}
-use Rattle.area.specs.Area.{Vecs, view, X, X0, G, Lower, Upper, Trial, TrialGradient, Direction}
+use Rattle.area.specs.Area.{Vecs, view, Saved, X, G, Lower, Upper, Trial, TrialGradient, Direction}
 use Rattle.fit.specs.declared.Fit.{Fit}
 use Rattle.fit.specs.declared.Place.{Place}
 use Rattle.fit.specs.declared.Place.the-variants as W
@@ -66,16 +65,10 @@ machine t v = machineWith (pairsOf (t .shape) v) t v
 abbrev pub machineOf : Fit → List Float → M.Machine
 machineOf t a = machine t (view a (t .shape .n))
 
--- room for another value question and another iteration
-pub record Small (k : Counters) : Type 0 where
-  pub nit : k .nit < 0x4000_0000_0000_0000
-  pub drawn : k .drawn < 0x4000_0000_0000_0000
-
 -- what is not the machine's stays: the options as given, the log's numbers, and 0 for an absent high end
 pub record Kept (t r : Fit) : Type 0 where
   pub options : r .options ≡ t .options
-  pub entries : r .entries ≡ t .entries
-  pub words : r .words ≡ t .words
+  pub extra : r .extra ≡ t .extra
   pub settled : Settled (t .search) (t .trials) → Settled (r .search) (r .trials)
 
 -- r is t taken through F, whatever the area holds
@@ -90,7 +83,7 @@ pub record Steps (F : M.Machine → M.Machine) (t : Fit) (a : List Float) (r : F
   pub m : r .shape .m ≡ t .shape .m
   pub sound : (size : ℕ) → Sound (t .shape) size → Sound (r .shape) size
   pub kept : Kept t r
-  pub x0 : view b (t .shape .n) X0 ≡ view a (t .shape .n) X0
+  pub saved : Saved (view a (t .shape .n)) (view b (t .shape .n))
   pub is : machineOf r b ≡ F (machineOf t a)
 
 abbrev pub withPhase : Phase → Fit → Fit
@@ -107,6 +100,5 @@ withPhase p t = record {
   right = t .right;
   before = t .before;
   theta = t .theta;
-  entries = t .entries;
-  words = t .words;
+  extra = t .extra;
 }

@@ -1,6 +1,5 @@
 // The state of a fit, by value, and the steps that touch no vector.
 ghost use mathlib.Core.Path.{_≡_};
-ghost use Prim.Native.Nat.{_<_};
 ghost use Rattle.definition.specs.Machine.{ending};
 ghost use Rattle.definition.specs.Driver.{askValue, valued as valuedOf, onValue};
 ghost use Rattle.counters.specs.Counts.{terminationOf};
@@ -34,6 +33,12 @@ pub enum Phase {
     Ended(Termination),
 }
 
+// What is counted of the log, and not the machine's: the entries kept, and their words.
+pub struct Extra {
+    pub entries: usize,
+    pub words: usize,
+}
+
 // The state of a fit but for its vectors, which stand in the area.
 pub struct Fit {
     pub shape: Shape,
@@ -49,9 +54,7 @@ pub struct Fit {
     pub right: f64,
     pub before: f64,
     pub theta: f64,
-    // the entries kept in the log, and their words
-    pub entries: usize,
-    pub words: usize,
+    pub extra: Extra,
 }
 
 // The fit in another phase.
@@ -64,6 +67,7 @@ pub fn with_phase(t: Fit, p: Phase) -> Fit
     let counters = t.counters;
     let search = t.search;
     let trials = t.trials;
+    let extra = t.extra;
     Fit {
         shape: shape,
         options: options,
@@ -77,8 +81,7 @@ pub fn with_phase(t: Fit, p: Phase) -> Fit
         right: t.right,
         before: t.before,
         theta: t.theta,
-        entries: t.entries,
-        words: t.words,
+        extra: extra,
     }
 }
 
@@ -91,7 +94,6 @@ pub fn ended(t: Fit, why: Termination) -> Fit
 
 // A value question, unless the budget is spent.
 pub fn ask_value(t: Fit, p: Phase) -> Fit
-    requires { ⌜ t .counters .drawn < 0x4000_0000_0000_0000 ⌝ }
     ensures { λ r. ⌜ Turns (askValue (phaseOf p)) t r ⌝ }
 {
     let limits = t.limits;

@@ -7,8 +7,7 @@ use lib.ListN.{length, take}
 use lib.Ieee.{Float}
 use Rattle.definition.specs.Problem as P
 use Rattle.definition.specs.Machine as M
-use Rattle.definition.specs.Driver.{run}
-use Rattle.definition.specs.Log.{logWords}
+use Rattle.definition.specs.Book.{Book, runOf, logOf}
 use Rattle.definition.specs.Record.{Lengths}
 use Rattle.definition.specs.Replies.{Accepted, Due}
 use Rattle.area.specs.Area.{view}
@@ -40,21 +39,21 @@ machineIn w = machineOf (w .state) (w .area)
 
 -- the words of the log up to the last entry
 abbrev pub logIn : Words → List ℕ
-logIn w = take (w .state .words) (w .log)
+logIn w = take (w .state .extra .words) (w .log)
 
--- the words hold the machine of the setup s after the replies rs, each due when it was given; whether s is accepted is not said
-pub record Stands (w : Words) (s : P.Setup) (rs : List M.Reply) : Type 0 where
-  pub due : Due s rs
+-- the words hold the machine of the setup after the replies of the book b, each due when it was given; whether the setup is accepted is not said
+pub record Stands (w : Words) (b : Book) : Type 0 where
+  pub due : Due (b .setup) (b .replies)
   pub test : isHeld (w .state) (w .area) ≡ true
-  pub setup : setupOf w ≡ s
-  pub is : machineIn w ≡ run s rs
+  pub setup : setupOf w ≡ b .setup
+  pub is : machineIn w ≡ runOf b
   pub settled : Settled (w .state .search) (w .state .trials)
-  pub entries : w .state .entries ≡ length rs
-  pub words : w .state .words ≡ length (logWords rs)
-  pub room : w .state .words ≤ length (w .log)
-  pub log : logIn w ≡ logWords rs
+  pub entries : w .state .extra .entries ≡ length (b .replies)
+  pub words : w .state .extra .words ≡ length (logOf b)
+  pub room : w .state .extra .words ≤ length (w .log)
+  pub log : logIn w ≡ logOf b
 
--- the words hold the fit of the setup s, an accepted one, after the replies rs
-pub record Held (w : Words) (s : P.Setup) (rs : List M.Reply) : Type 0 where
-  pub accepted : Accepted s
-  pub stands : Stands w s rs
+-- the words hold the fit of the book b, its setup an accepted one
+pub record Held (w : Words) (b : Book) : Type 0 where
+  pub accepted : Accepted (b .setup)
+  pub stands : Stands w b

@@ -6,6 +6,7 @@ ghost use lib.Ieee.{Float};
 ghost use Rattle.driver.specs.Replies.{isHeld};
 use compact::Shape;
 use counters::Counters;
+use fit::Extra;
 use fit::Fit;
 use fit::Phase;
 use problem::Limits;
@@ -63,12 +64,15 @@ pub fn empty() -> Fit
         nit: 0,
         nfev: 0,
         njev: 0,
-        drawn: 0,
     };
     let trials = Trials {
         count: 0,
         face: false,
         bracketed: false,
+    };
+    let extra = Extra {
+        entries: 0,
+        words: 0,
     };
     Fit {
         shape: shape,
@@ -83,7 +87,6 @@ pub fn empty() -> Fit
         right: 0.0,
         before: 0.0,
         theta: 0.0,
-        entries: 0,
-        words: 0,
+        extra: extra,
     }
 }

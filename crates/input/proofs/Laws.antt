@@ -8,7 +8,7 @@ use lib.ListN.{length}
 use lib.Ieee.{Float}
 use Rattle.definition.specs.Record.{Lengths, Reading, plainRefusal, readRecord}
 use Rattle.definition.specs.History.{restoredAnswer}
-use Rattle.definition.specs.Programs.{mostBytes, readInput}
+use Rattle.definition.specs.Programs.{mostBytes, inputArea, inputLog, readInput}
 use Rattle.definition.proofs.Plenty.{read-plenty}
 use Rattle.problem.specs.Setups.{refusalOf}
 use Rattle.problem.specs.declared.Refusal.{Refusal}
@@ -33,21 +33,21 @@ taken-long bs c a l h e = rw (read-long bs h) e
 -- ---- one that is restored
 
 restored-taken : (d : Reading) (f : Fit) (r : Answer) (w : Words) (a : List Float) (l : List ℕ) → kept r ≡ restoredAnswer d → Restores d w (words (next f r) a l) → Taken d r a l
-restored-taken (Reading.accepted s rs) f (A.Kept g) w a l e h = h .held
-restored-taken (Reading.accepted s rs) f (A.Refused c) w a l e h = let z : _≡_ {A = ℕ} 0 1 = cc in omega arith
+restored-taken (Reading.accepted b) f (A.Kept g) w a l e h = h .held
+restored-taken (Reading.accepted b) f (A.Refused c) w a l e h = let z : _≡_ {A = ℕ} 0 1 = cc in omega arith
 restored-taken (Reading.refused k) f (A.Kept g) w a l e h = let z : _≡_ {A = ℕ} 0 1 = cc in omega arith
 restored-taken (Reading.refused k) f (A.Refused c) w a l e h = cc
 restored-taken (Reading.refusedAtEntry k) f (A.Kept g) w a l e h = let z : _≡_ {A = ℕ} 0 1 = cc in omega arith
 restored-taken (Reading.refusedAtEntry k) f (A.Refused c) w a l e h = cc
 
-read-short : (bs : List ℕ) (z : Lengths) → length bs ≤ mostBytes → z .area ≡ 6208 → z .log ≡ 8192 → readInput bs ≡ readRecord z bs
+read-short : (bs : List ℕ) (z : Lengths) → length bs ≤ mostBytes → z .area ≡ inputArea → z .log ≡ inputLog → readInput bs ≡ readRecord z bs
 unfolding readInput
 read-short bs z h a l =
-    let same : _≡_ {A = Lengths} z (record { area = 6208; log = 8192 }) = ap₂ (λ (x y : ℕ). record { area = x; log = y }) a l in
+    let same : _≡_ {A = Lengths} z (record { area = inputArea; log = inputLog }) = ap₂ (λ (x y : ℕ). record { area = x; log = y }) a l in
     rw (le-ltb mostBytes (length bs) h) (sym (read-plenty bs h) ∙ ap (λ (x : Lengths). readRecord x bs) (sym same))
 
 pub taken-restored : (bs : List ℕ) (f : Fit) (r : Answer) (a : List Float) (l : List ℕ) (a' : List Float) (l' : List ℕ)
-    → length bs ≤ mostBytes → length a ≡ 6208 → length l ≡ 8192 → Restored bs (words f a l) (words (next f r) a' l') (kept r) → Taken (readInput bs) r a' l'
+    → length bs ≤ mostBytes → length a ≡ inputArea → length l ≡ inputLog → Restored bs (words f a l) (words (next f r) a' l') (kept r) → Taken (readInput bs) r a' l'
 taken-restored bs f r a l a' l' h n k d =
     rw (read-short bs (lengths (words f a l)) h n k)
     (restored-taken (readRecord (lengths (words f a l)) bs) f r (words f a l) a' l' (d .always) (d .restores))

@@ -24,7 +24,7 @@ pub taken-never-short :
 taken-never-short bs c a l h = go (readInput bs) refl h
   where
     go : (d : Reading) → readInput bs ≡ d → Taken d (A.Refused c) a l → (c .number ≢ 11) × (c .number ≢ 12)
-    go (Reading.accepted s rs) e h = absurd h
+    go (Reading.accepted b) e h = absurd h
     go (Reading.refused k) e h = never-short bs (refusalOf c) (inl (e ∙ ap Reading.refused (sym h)))
     go (Reading.refusedAtEntry k) e h = never-short bs (refusalOf c) (inr (e ∙ ap Reading.refusedAtEntry (sym h)))
 

@@ -11,8 +11,8 @@ use Rattle.lbfgsb.specs.declared.Answer.the-variants as A
 
 -- a fit accepted is held; a refusal has the definition's number and details
 abbrev pub Taken : Reading → Answer → List Float → List ℕ → Type 0
-Taken (Reading.accepted s rs) (A.Kept f) a l = Held (words f a l) s rs
-Taken (Reading.accepted s rs) (A.Refused c) a l = ⊥
+Taken (Reading.accepted b) (A.Kept f) a l = Held (words f a l) b
+Taken (Reading.accepted b) (A.Refused c) a l = ⊥
 Taken (Reading.refused k) (A.Kept f) a l = ⊥
 Taken (Reading.refused k) (A.Refused c) a l = refusalOf c ≡ k
 Taken (Reading.refusedAtEntry k) (A.Kept f) a l = ⊥

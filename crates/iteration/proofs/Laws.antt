@@ -7,20 +7,21 @@ use Prim.Native.Nat.{ℕ, _<_}
 use native.Mathlib.Omega.{arith}
 use borrow.Author.Tests.{ne-eqb}
 use lib.Ieee.{Float, binary64, ofBits}
-use Rattle.definition.specs.Vector.{tab}
+use Rattle.definition.specs.Vector.{tab, _andThen_}
 use Rattle.definition.specs.Problem.{Bounds, Terms}
 use Rattle.definition.specs.Geometry.{generalizedCauchy, primalMinimize}
 use Rattle.definition.specs.Compact.{Compact, noPairs, count}
 use Rattle.definition.specs.Counters.{Termination}
 use Rattle.definition.specs.Machine.{State, Machine, state, withCompact, ending}
-use Rattle.definition.specs.Driver.{Ends, endsFrom, endsOf, bothEnds, searchAlong, towards, withoutPairs, descend, gradientSmall, iterate}
-use Rattle.area.specs.Area.{Vecs, view, ScratchOnly, given, X, G, Lower, Upper, Direction, Cauchy}
+use Rattle.definition.specs.Driver.{Ends, endsFrom, endsOf, searchAlong, towards, withoutPairs, descend, gradientSmall, iterate}
+use Rattle.area.specs.Area.{Vecs, view, firstPair, ScratchOnly, given, X, G, Lower, Upper, Direction, Cauchy}
+use Rattle.area.proofs.Laws.{saved-refl, saved-upd}
 use Rattle.compact.specs.declared.Shape.{Shape}
 use Rattle.compact.specs.State.{pairsOf, compactOf, Sound, PairsKept}
 use Rattle.compact.proofs.Laws.{pairs-count}
 use Rattle.cauchy.specs.State.{Points}
 use Rattle.subspace.specs.State.{boundsOf, minimumAt, Minimizes, endsIn, headed}
-use Rattle.subspace.proofs.Ends.{both-ends}
+use Rattle.subspace.proofs.Ends.{bothEnds, both-ends}
 use Rattle.fit.specs.declared.Fit.{Fit}
 use Rattle.fit.specs.State.{Turns, Steps, machineOf}
 use Rattle.fit.proofs.Laws.{pairs-kept, pairs-same, model-stays, withRing, compacted, still, steps-then, steps-as, steps-at}
@@ -30,11 +31,15 @@ use Rattle.iteration.specs.Model.{endsWhere, MachineKept, Offers}
 
 -- the columns are laid out
 pub kept-laid : {h : Shape} {a b : Vecs} → PairsKept h a b → MachineKept h a b
-kept-laid k = record { low = λ q l. k q (omega arith); pairs = λ q l m. k q m }
+kept-laid k = record { low = λ q l. k q (omega arith); free = λ q l m. k q (omega arith); pairs = λ q l m. k q m }
 
 -- and then only scratch is written
 pub kept-scratch : {h : Shape} {a b d : Vecs} → MachineKept h a b → ScratchOnly b d → MachineKept h a d
-kept-scratch k s = record { low = λ q l. s .low q l ∙ k .low q l; pairs = λ q l m. s .high q l ∙ k .pairs q l m }
+kept-scratch k s = record {
+  low = λ q l. s .low q l ∙ k .low q l;
+  free = λ q l m. s .free q l m ∙ k .free q l m;
+  pairs = λ q l m. s .high q l ∙ k .pairs q l m;
+}
 
 pub compact-same : {h : Shape} {size : ℕ} (theta : Float) {a b : Vecs} → Sound h size → MachineKept h a b → compactOf h theta b ≡ compactOf h theta a
 compact-same {h} theta {a} {b} s k = λ i. record { pairs = pairs-same h a b s (k .pairs) i; theta = theta; oldest = h .oldest }
@@ -56,9 +61,9 @@ made-same F {h} theta {a} {b} s k t n q =
 abbrev pointAt : Shape → Float → Vecs → Option (List Float)
 pointAt h theta v = generalizedCauchy (h .n) (boundsOf v) (compactOf h theta v) (v X) (v G)
 
-ends-from : (t : Terms) (c : Compact) (h : State) {o : Option (List Float)} → o ≡ generalizedCauchy (t .n) (t .bounds) c (h .x) (h .g) → endsFrom t c h o ≡ endsOf t c h
+ends-from : (t : Terms) (c : Compact) (h : State) {o : Option (List Float)} → o ≡ generalizedCauchy (t .n) (t .bounds) c (h .x) (h .g) → (o andThen endsFrom t c h) ≡ endsOf t c h
 unfolding endsOf
-ends-from t c h e = ap (endsFrom t c h) e
+ends-from t c h e = ap (λ (o : Option (List Float)). o andThen endsFrom t c h) e
 
 -- no Cauchy point
 pub no-point : {h : Shape} {size : ℕ} {theta : Float} {a b d : Vecs} {ok : Bool}
@@ -126,7 +131,9 @@ module _ (m : Machine) where
 pub headed-along : {t r : Fit} {a b d : List Float} → ((f : Float) → view b (t .shape .n) ≡ headed (t .shape .n) f (view a (t .shape .n)))
     → Steps searchAlong t b r d → Steps (towards (endsIn (view a (t .shape .n)))) t a r d
 unfolding towards
-headed-along {t} h k = let l : Direction < 16 = omega arith in steps-at k (h (t .value)) refl (rw pairs-kept)
+headed-along {t} h k =
+    let l : Direction < firstPair = omega arith in
+    steps-at k (h (t .value)) (saved-upd Direction _ (omega arith) (λ e. omega arith) saved-refl) (rw pairs-kept)
 
 -- ---- by what the model offers
 
@@ -139,7 +146,7 @@ ends-are : (t : Fit) (a : List Float) {ok : Bool} {b : Vecs} → Offers (t .shap
 ends-are t a o = o .is (machineOf t a .terms) refl refl (t .value)
 
 stays : {t : Fit} {size : ℕ} {a b : List Float} {ok : Bool} → Sound (t .shape) size → Offered t a ok b → Steps (λ (m : Machine). m) t a t b
-stays s o = model-stays s (o .kept .low) (o .kept .pairs)
+stays s o = model-stays s (o .kept .low) (o .kept .free) (o .kept .pairs)
 
 -- the area stays
 turned : {F : Machine → Machine} {t r : Fit} {a : List Float} → Turns F t r → Steps F t a r a
@@ -187,7 +194,7 @@ ends-again t a o =
     ∙ ap (λ (c : Compact). endsOf (machineOf t a .terms) c (machineOf t a .held)) (no-pairs (t .shape) (view a (t .shape .n)))
 
 drops : {t : Fit} {a b : List Float} {ok : Bool} → OfferedAgain t a ok b → Steps (withCompact noPairs) t a (withRing (dropped (t .shape)) one t) b
-drops {t} {b = b} o = compacted refl refl (λ size. sound-dropped) (no-pairs (t .shape) (view b (t .shape .n))) (o .kept .low)
+drops {t} {b = b} o = compacted refl refl (λ size. sound-dropped) (no-pairs (t .shape) (view b (t .shape .n))) (o .kept .low) (o .kept .free)
 
 pub again-towards : {t r : Fit} {a b d : List Float} {ok : Bool} → OfferedAgain t a ok b → ok ≡ true
     → Steps (towards (endsIn (view b (t .shape .n)))) (withRing (dropped (t .shape)) one t) b r d → Steps withoutPairs t a r d

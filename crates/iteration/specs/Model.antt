@@ -7,7 +7,7 @@ use lib.Ieee.{Float}
 use Rattle.definition.specs.Problem.{Terms}
 use Rattle.definition.specs.Machine.{state}
 use Rattle.definition.specs.Driver.{Ends, endsOf}
-use Rattle.area.specs.Area.{Vecs, X, G}
+use Rattle.area.specs.Area.{Vecs, firstPair, firstColumn, FreeKept, X, G}
 use Rattle.compact.specs.declared.Shape.{Shape}
 use Rattle.compact.specs.State.{compactOf}
 use Rattle.subspace.specs.State.{boundsOf, endsIn}
@@ -16,10 +16,11 @@ use Rattle.subspace.specs.State.{boundsOf, endsIn}
 abbrev pub endsWhere : Bool → Vecs → Option Ends
 endsWhere ok v = cond ok (some (endsIn v)) none
 
--- the named vectors and the pairs are as they were: scratch and the columns apart
+-- every vector is as it was: scratch and the columns apart
 pub record MachineKept (h : Shape) (a b : Vecs) : Type 0 where
   pub low : (q : ℕ) → q < 8 → b q ≡ a q
-  pub pairs : (q : ℕ) → 16 ≤ q → q < 16 + 2 * h .m → b q ≡ a q
+  pub free : FreeKept a b
+  pub pairs : (q : ℕ) → firstPair ≤ q → q < firstColumn (h .m) → b q ≡ a q
 
 -- the ends of the model of a stand in their vectors of b; f is the value of the point held, which does not matter here
 pub record Offers (h : Shape) (theta : Float) (a : Vecs) (ok : Bool) (b : Vecs) : Type 0 where

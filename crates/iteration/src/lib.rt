@@ -1,10 +1,11 @@
 // One iteration of the driver: the model, the direction that it gives, and the first trial along it.
 ghost use Prim.Native.Nat.{_≤_};
 ghost use lib.ListN.{length};
+ghost use Rattle.definition.specs.Problem.{mostCoordinates};
 ghost use Rattle.definition.specs.Driver.{towards as towardsOf, withoutPairs, descend as descendOf, iterate as iterateOf};
 ghost use Rattle.area.specs.Area.{view};
 ghost use Rattle.compact.specs.State.{Sound};
-ghost use Rattle.fit.specs.State.{Steps, Small};
+ghost use Rattle.fit.specs.State.{Steps};
 ghost use Rattle.subspace.specs.State.{endsIn};
 ghost use Rattle.iteration.specs.Model.{Offers};
 use compact::Shape;
@@ -15,7 +16,7 @@ use fit::Fit;
 
 // The Cauchy point and the target, in their vectors: the columns are laid out, and the block is built and factored once.
 fn model(area: &mut [f64], h: Shape, theta: f64) -> bool
-    requires { ⌜ Sound h (length (now area)) × (h .n ≤ 64) ⌝ }
+    requires { ⌜ Sound h (length (now area)) × (h .n ≤ mostCoordinates) ⌝ }
     ensures { λ r. ⌜ Offers h theta (view (now (area .entry)) (h .n)) r (view (now (area .exit)) (h .n)) ⌝ }
 {
     compact::lay_columns(area, h, theta);
@@ -33,7 +34,7 @@ fn model(area: &mut [f64], h: Shape, theta: f64) -> bool
 
 // Along the direction to the end chosen.
 fn towards(t: Fit, area: &mut [f64]) -> Fit
-    requires { ⌜ Sound (t .shape) (length (now area)) × Small (t .counters) ⌝ }
+    requires { ⌜ Sound (t .shape) (length (now area)) ⌝ }
     ensures { λ r. ⌜ Steps (towardsOf (endsIn (view (now (area .entry)) (t .shape .n)))) t (now (area .entry)) r (now (area .exit)) ⌝ }
 {
     subspace::head(area, t.shape.n);
@@ -42,7 +43,7 @@ fn towards(t: Fit, area: &mut [f64]) -> Fit
 
 // The pairs are dropped for good, and the model is tried once more.
 fn without_pairs(t: Fit, area: &mut [f64]) -> Fit
-    requires { ⌜ Sound (t .shape) (length (now area)) × Small (t .counters) × (t .shape .n ≤ 64) ⌝ }
+    requires { ⌜ Sound (t .shape) (length (now area)) × (t .shape .n ≤ mostCoordinates) ⌝ }
     ensures { λ r. ⌜ Steps withoutPairs t (now (area .entry)) r (now (area .exit)) ⌝ }
 {
     let mut h = t.shape;
@@ -59,7 +60,7 @@ fn without_pairs(t: Fit, area: &mut [f64]) -> Fit
 
 // The direction and the first trial along it.
 fn descend(t: Fit, area: &mut [f64]) -> Fit
-    requires { ⌜ Sound (t .shape) (length (now area)) × Small (t .counters) × (t .shape .n ≤ 64) ⌝ }
+    requires { ⌜ Sound (t .shape) (length (now area)) × (t .shape .n ≤ mostCoordinates) ⌝ }
     ensures { λ r. ⌜ Steps descendOf t (now (area .entry)) r (now (area .exit)) ⌝ }
 {
     let h = t.shape;
@@ -73,7 +74,7 @@ fn descend(t: Fit, area: &mut [f64]) -> Fit
 }
 
 pub fn iterate(t: Fit, area: &mut [f64]) -> Fit
-    requires { ⌜ Sound (t .shape) (length (now area)) × Small (t .counters) × (t .shape .n ≤ 64) ⌝ }
+    requires { ⌜ Sound (t .shape) (length (now area)) × (t .shape .n ≤ mostCoordinates) ⌝ }
     ensures { λ r. ⌜ Steps iterateOf t (now (area .entry)) r (now (area .exit)) ⌝ }
 {
     if trial::gradient_small(t, area) {

@@ -5,7 +5,8 @@ ghost use mathlib.Core.Path.{_≡_};
 ghost use mathlib.Core.Bool.{true};
 ghost use Prim.Native.Nat.{_+_, _*_, _≤_, _<_};
 ghost use lib.ListN.{length};
-ghost use Rattle.area.specs.Area.{view};
+ghost use Rattle.definition.specs.Problem.{mostCoordinates};
+ghost use Rattle.area.specs.Area.{view, firstPair};
 ghost use Rattle.compact.specs.State.{Sound, Modelled, Prepared};
 
 const SOLVE: u64 = 1;
@@ -197,7 +198,7 @@ fn fits(h: compact::Shape, words: usize) -> bool
     if h.oldest >= h.m {
         return false;
     }
-    vectors(16 + 4 * h.m, h.n) <= words
+    vectors(area::FIRST_PAIR + 4 * h.m, h.n) <= words
 }
 
 // Vector p becomes the words from at on. The answer is the word after them.
@@ -216,9 +217,9 @@ fn load(area: &mut [f64], n: usize, p: usize, s: &[u8], at: usize) -> usize
 fn load_pairs(area: &mut [f64], h: compact::Shape, s: &[u8]) -> usize
     requires { ⌜ Sound h (length (now area)) ⌝ }
 {
-    let end = 16 + 2 * h.pairs;
+    let end = area::FIRST_PAIR + 2 * h.pairs;
     let mut at = 4;
-    let mut p = 16;
+    let mut p = area::FIRST_PAIR;
     while p < end {
         at = load(area, h.n, p, s, at);
         p += 1;
@@ -401,7 +402,7 @@ fn times_case(s: &[u8]) -> bool {
 
 // 1 where coordinate i of the Cauchy point lies strictly between its bounds.
 fn free_flag(area: &[f64], n: usize, i: usize) -> u64
-    requires { ⌜ (16 * n ≤ length (now area)) × (i < n) ⌝ }
+    requires { ⌜ (firstPair * n ≤ length (now area)) × (i < n) ⌝ }
 {
     let x = area::get(area, n, area::CAUCHY, i);
     if area::get(area, n, area::LOWER, i) < x {
@@ -414,7 +415,7 @@ fn free_flag(area: &[f64], n: usize, i: usize) -> u64
 
 // Whether the free coordinates are those of the words from at on.
 fn are_free(area: &[f64], n: usize, s: &[u8], at: usize) -> bool
-    requires { ⌜ 16 * n ≤ length (now area) ⌝ }
+    requires { ⌜ firstPair * n ≤ length (now area) ⌝ }
 {
     let mut i = 0;
     while i < n {
@@ -433,7 +434,7 @@ fn target_flag(n: usize, at: usize) -> usize {
 
 // Whether the Cauchy point is the answer from word at on, with its free coordinates.
 fn is_cauchy(area: &[f64], n: usize, s: &[u8], at: usize) -> bool
-    requires { ⌜ 16 * n ≤ length (now area) ⌝ }
+    requires { ⌜ firstPair * n ≤ length (now area) ⌝ }
 {
     if word(s, at) != 1 {
         return false;
@@ -447,7 +448,7 @@ fn is_cauchy(area: &[f64], n: usize, s: &[u8], at: usize) -> bool
 
 // Whether the target, where ok says that there is one, is the answer from word i on.
 fn is_target(area: &[f64], n: usize, ok: bool, s: &[u8], i: usize) -> bool
-    requires { ⌜ 16 * n ≤ length (now area) ⌝ }
+    requires { ⌜ firstPair * n ≤ length (now area) ⌝ }
 {
     if !ok {
         return word(s, i) == 0;
@@ -490,7 +491,7 @@ fn from_cauchy(
 
 // Finds the Cauchy point of the pairs' model, and compares from there on.
 fn is_geometry(area: &mut [f64], h: compact::Shape, theta: f64, s: &[u8], at: usize) -> bool
-    requires { ⌜ Sound h (length (now area)) × (h .n ≤ 64) ⌝ }
+    requires { ⌜ Sound h (length (now area)) × (h .n ≤ mostCoordinates) ⌝ }
 {
     compact::lay_columns(area, h, theta);
     let b = compact::block(area, h, theta);
@@ -518,7 +519,7 @@ fn is_geometry(area: &mut [f64], h: compact::Shape, theta: f64, s: &[u8], at: us
 
 // x, g and the bounds go to their places. The answer is the word after them.
 fn load_point(area: &mut [f64], n: usize, s: &[u8], at: usize) -> usize
-    requires { ⌜ 16 * n ≤ length (now area) ⌝ }
+    requires { ⌜ firstPair * n ≤ length (now area) ⌝ }
 {
     let g = load(area, n, area::X, s, at);
     let lower = load(area, n, area::G, s, g);
@@ -528,7 +529,7 @@ fn load_point(area: &mut [f64], n: usize, s: &[u8], at: usize) -> usize
 
 // Loads the model with the point, and compares.
 fn geometry_in(area: &mut [f64], h: compact::Shape, s: &[u8]) -> bool
-    requires { ⌜ Sound h (length (now area)) × (h .n ≤ 64) ⌝ }
+    requires { ⌜ Sound h (length (now area)) × (h .n ≤ mostCoordinates) ⌝ }
 {
     let point = load_pairs(area, h, s);
     let at = load_point(area, h.n, s, point);

@@ -15,11 +15,11 @@ use Rattle.lbfgsb.proofs.Trace.{Called, did, from, after}
 
 agree-in : (w v : Words) (h : History) → Holds w h → Holds v h → HasFit h → lengths w ≡ lengths v → Agree w v
 agree-in w v History.empty a b f l = absurd f
-agree-in w v (History.fit s rs) a b f l = agree (a .stands) (b .stands) l
+agree-in w v (History.fit k) a b f l = agree (a .stands) (b .stands) l
 
 has-fit : (w : Words) (h : History) → Holds w h → FitIn w → HasFit h
 has-fit w History.empty a f = false≢true (sym a ∙ f)
-has-fit w (History.fit s rs) a f = tt
+has-fit w (History.fit b) a f = tt
 
 -- words that hold one history
 pub alike : (w v : Words) (h : History) → Holds w h → Holds v h → HasFit h → lengths w ≡ lengths v → Alike Called w v

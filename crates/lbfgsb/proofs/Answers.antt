@@ -11,6 +11,7 @@ use Rattle.definition.specs.Problem as P
 use Rattle.definition.specs.Problem.{Refusal, _then_, validate}
 use Rattle.definition.specs.Machine as M
 use Rattle.definition.specs.Log.{entryWords}
+use Rattle.definition.specs.Book.{Book, openedBook, withReply}
 use Rattle.definition.specs.Record.{checkArea, plainRefusal}
 use Rattle.definition.specs.History as H
 use Rattle.definition.specs.History.{Call, History, historyStep, historyAnswer, checkReply}
@@ -40,7 +41,7 @@ start-refused s w r e = record {
   log = refl;
 }
 
-pub start-done : (s : P.Setup) (w w' : Words) → (validate s then checkArea (lengths w) s) ≡ none → lengths w' ≡ lengths w → w' .log ≡ w .log → Held w' s []
+pub start-done : (s : P.Setup) (w w' : Words) → (validate s then checkArea (lengths w) s) ≡ none → lengths w' ≡ lengths w → w' .log ≡ w .log → Held w' (openedBook s)
     → Started s w w' H.Answer.done
 start-done s w w' e z l h = record {
   did = record { sized = z; holds = λ g k. rw e h; said = λ g k. rw e refl };
@@ -53,17 +54,17 @@ start-done s w w' e z l h = record {
 -- ---- reply
 
 -- the check of a history that the words hold
-check-held : (w : Words) (s : P.Setup) (rs : List M.Reply) (r : M.Reply) → Held w s rs → checkReply (lengths w) s rs r ≡ checkAt w r
-check-held w s rs r h = rw (← h .stands .is, ← h .stands .words) refl
+check-held : (w : Words) (b : Book) (r : M.Reply) → Held w b → checkReply (lengths w) b r ≡ checkAt w r
+check-held w b r h = rw (← h .stands .is, ← h .stands .words) refl
 
 unheld-holds : (w : Words) (r : M.Reply) → isHeld (w .state) (w .area) ≡ false → (h : History) → Holds w h → Holds w (historyStep (lengths w) h (Call.reply r))
 unheld-holds w r e History.empty k = k
-unheld-holds w r e (History.fit s rs) k = absurd (false≢true (sym e ∙ k .stands .test))
+unheld-holds w r e (History.fit b) k = absurd (false≢true (sym e ∙ k .stands .test))
 
 unheld-said : (w : Words) (r : M.Reply) → isHeld (w .state) (w .area) ≡ false → (h : History) → Holds w h
     → H.Answer.refused (plainRefusal 13) ≡ historyAnswer (lengths w) h (Call.reply r)
 unheld-said w r e History.empty k = refl
-unheld-said w r e (History.fit s rs) k = absurd (false≢true (sym e ∙ k .stands .test))
+unheld-said w r e (History.fit b) k = absurd (false≢true (sym e ∙ k .stands .test))
 
 replied-by :
     {r : M.Reply} {w w' : Words} {o : H.Answer} → Did (Call.reply r) w w' o → o ≡ replyAnswer w r → Refuses o w w'
@@ -78,12 +79,12 @@ reply-unheld r w e =
 refused-holds : (w : Words) (r : M.Reply) (c : Refusal) → isHeld (w .state) (w .area) ≡ true → checkAt w r ≡ some c
     → (h : History) → Holds w h → Holds w (historyStep (lengths w) h (Call.reply r))
 refused-holds w r c t e History.empty k = k
-refused-holds w r c t e (History.fit s rs) k = rw (check-held w s rs r k ∙ e) k
+refused-holds w r c t e (History.fit b) k = rw (check-held w b r k ∙ e) k
 
 refused-said : (w : Words) (r : M.Reply) (c : Refusal) → isHeld (w .state) (w .area) ≡ true → checkAt w r ≡ some c
     → (h : History) → Holds w h → H.Answer.refused c ≡ historyAnswer (lengths w) h (Call.reply r)
 refused-said w r c t e History.empty k = absurd (true≢false (sym t ∙ k))
-refused-said w r c t e (History.fit s rs) k = rw (check-held w s rs r k ∙ e) refl
+refused-said w r c t e (History.fit b) k = rw (check-held w b r k ∙ e) refl
 
 pub reply-refused : (r : M.Reply) (w : Words) (c : Refusal) → isHeld (w .state) (w .area) ≡ true → checkAt w r ≡ some c → Replied r w w (H.Answer.refused c)
 reply-refused r w c t e =
@@ -92,17 +93,17 @@ reply-refused r w c t e =
 
 -- the words hold the fit with one more reply, whatever they held
 abbrev pub OneMore : M.Reply → Words → Words → Type 0
-OneMore r w w' = (s : P.Setup) (rs : List M.Reply) → Held w s rs → Held w' s (r ∷ rs)
+OneMore r w w' = (b : Book) → Held w b → Held w' (withReply r b)
 
 done-holds : (r : M.Reply) (w w' : Words) → isHeld (w .state) (w .area) ≡ true → checkAt w r ≡ none → OneMore r w w'
     → (h : History) → Holds w h → Holds w' (historyStep (lengths w) h (Call.reply r))
 done-holds r w w' t e m History.empty k = absurd (true≢false (sym t ∙ k))
-done-holds r w w' t e m (History.fit s rs) k = rw (check-held w s rs r k ∙ e) (m s rs k)
+done-holds r w w' t e m (History.fit b) k = rw (check-held w b r k ∙ e) (m b k)
 
 done-said : (r : M.Reply) (w : Words) → isHeld (w .state) (w .area) ≡ true → checkAt w r ≡ none
     → (h : History) → Holds w h → H.Answer.done ≡ historyAnswer (lengths w) h (Call.reply r)
 done-said r w t e History.empty k = absurd (true≢false (sym t ∙ k))
-done-said r w t e (History.fit s rs) k = rw (check-held w s rs r k ∙ e) refl
+done-said r w t e (History.fit b) k = rw (check-held w b r k ∙ e) refl
 
 pub reply-done : (r : M.Reply) (w w' : Words) → isHeld (w .state) (w .area) ≡ true → checkAt w r ≡ none → lengths w' ≡ lengths w → Moved r w w' → OneMore r w w'
     → Replied r w w' H.Answer.done
@@ -112,20 +113,20 @@ reply-done r w w' t e z v m =
 
 -- ---- the fit advanced
 
-moved : {r : M.Reply} {t f : Fit} {a b : List Float} (l : List ℕ) → Advances r t a f b → Moved r (words t a l) (words f b (written (t .words) (entryWords r) l))
+moved : {r : M.Reply} {t f : Fit} {a b : List Float} (l : List ℕ) → Advances r t a f b → Moved r (words t a l) (words f b (written (t .extra .words) (entryWords r) l))
 moved {r} {t} {f} l h = record {
   is = h .is;
   setup = h .setup;
   entries = h .entries;
   words = h .words;
-  log = ap (λ (k : ℕ). take (t .words) l ++ entryWords r ++ drop k l) (sym (h .words));
+  log = ap (λ (k : ℕ). take (t .extra .words) l ++ entryWords r ++ drop k l) (sym (h .words));
 }
 
 pub reply-advanced : (r : M.Reply) (t f : Fit) (a b : List Float) (l m : List ℕ) → isHeld t a ≡ true → checkSaid t a (length l) r ≡ none → length b ≡ length a
-    → Advances r t a f b → m ≡ written (t .words) (entryWords r) l → Replied r (words t a l) (words f b m) H.Answer.done
+    → Advances r t a f b → m ≡ written (t .extra .words) (entryWords r) l → Replied r (words t a l) (words f b m) H.Answer.done
 reply-advanced r t f a b l m k e z h q =
     let p = said-passed t a l r e in
-    let n = written-length (t .words) (entryWords r) l (p .1) in
+    let n = written-length (t .extra .words) (entryWords r) l (p .1) in
     rw q
-    (reply-done r (words t a l) (words f b (written (t .words) (entryWords r) l)) k e (λ i. record { area = z i; log = n i }) (moved l h)
-    (λ s rs o. held-advanced o (p .0) (p .1) z h))
+    (reply-done r (words t a l) (words f b (written (t .extra .words) (entryWords r) l)) k e (λ i. record { area = z i; log = n i }) (moved l h)
+    (λ b o. held-advanced o (p .0) (p .1) z h))

@@ -20,7 +20,7 @@ use Rattle.definition.specs.Number.{one64}
 use Rattle.definition.specs.Vector.{word}
 use Rattle.definition.specs.Compact.{Pair, wrap}
 use Rattle.definition.specs.Values.{Binary64}
-use Rattle.area.specs.Area.{Vecs, view}
+use Rattle.area.specs.Area.{Vecs, view, placeSlot, firstColumn, vectors}
 use Rattle.area.proofs.Laws.{room, length-view, word-view}
 use Rattle.compact.specs.State.{pairAt, Sound}
 use Rattle.compact.specs.declared.Shape.{Shape}
@@ -88,7 +88,7 @@ module _ (h : Shape) (ring : h .oldest < h .m) (most : h .pairs ≤ h .m) where
 
   -- nor is one of a place that a pair is in
   place-used :
-      (k p q : ℕ) → k < h .pairs → wrap (h .m) (h .oldest + k) ≡ p → p < h .m → (q ≡ 16 + 2 * p) ⊎ (q ≡ 16 + 2 * p + 1)
+      (k p q : ℕ) → k < h .pairs → wrap (h .m) (h .oldest + k) ≡ p → p < h .m → (q ≡ placeSlot p) ⊎ (q ≡ placeSlot p + 1)
       → ScratchVector h q → ⊥
   place-used k p q l e m (inl x) (ScratchVector.between u f) = omega (arith, x, f)
   place-used k p q l e m (inr x) (ScratchVector.between u f) = omega (arith, x, f)
@@ -103,20 +103,20 @@ module _ (h : Shape) (ring : h .oldest < h .m) (most : h .pairs ≤ h .m) where
   wrap-few k l = by-wrap (h .m) (h .oldest + k) (λ x y. omega (arith, x, y)) (λ x y. omega (arith, x, y, ring, most, l))
 
   module _ (a b : Vecs) (same : InUse h a b) where
-    first-of : (k : ℕ) → k < h .pairs → (p q : ℕ) → wrap (h .m) (h .oldest + k) ≡ p → q ≡ 16 + 2 * p → a q ≡ b q
+    first-of : (k : ℕ) → k < h .pairs → (p q : ℕ) → wrap (h .m) (h .oldest + k) ≡ p → q ≡ placeSlot p → a q ≡ b q
     first-of k l p q e f =
-        let g : q ≡ 16 + 2 * wrap (h .m) (h .oldest + k) = f ∙ ap (λ (x : ℕ). 16 + 2 * x) (sym e) in
+        let g : q ≡ placeSlot (wrap (h .m) (h .oldest + k)) = f ∙ ap (λ (x : ℕ). placeSlot x) (sym e) in
         ap a g ∙ ap (λ (x : Pair). x .s) (same .pairs k l) ∙ ap b (sym g)
 
-    second-of : (k : ℕ) → k < h .pairs → (p q : ℕ) → wrap (h .m) (h .oldest + k) ≡ p → q ≡ 16 + 2 * p + 1 → a q ≡ b q
+    second-of : (k : ℕ) → k < h .pairs → (p q : ℕ) → wrap (h .m) (h .oldest + k) ≡ p → q ≡ placeSlot p + 1 → a q ≡ b q
     second-of k l p q e f =
-        let g : q ≡ 16 + 2 * wrap (h .m) (h .oldest + k) + 1 = f ∙ ap (λ (x : ℕ). 16 + 2 * x + 1) (sym e) in
+        let g : q ≡ placeSlot (wrap (h .m) (h .oldest + k)) + 1 = f ∙ ap (λ (x : ℕ). placeSlot x + 1) (sym e) in
         ap a g ∙ ap (λ (x : Pair). x .y) (same .pairs k l) ∙ ap b (sym g)
 
-    of-place : (p q : ℕ) → p < h .m → (q ≡ 16 + 2 * p) ⊎ (q ≡ 16 + 2 * p + 1) → ScratchVector h q ⊎ (a q ≡ b q)
+    of-place : (p q : ℕ) → p < h .m → (q ≡ placeSlot p) ⊎ (q ≡ placeSlot p + 1) → ScratchVector h q ⊎ (a q ≡ b q)
     of-place p q l is = let t = turn-to (h .m) (h .oldest) p ring l in go (t .pair) (t .few) (t .is) (ltb (t .pair) (h .pairs)) refl is
       where
-        go : (k : ℕ) → k < h .m → wrap (h .m) (h .oldest + k) ≡ p → (t : Bool) → ltb k (h .pairs) ≡ t → (q ≡ 16 + 2 * p) ⊎ (q ≡ 16 + 2 * p + 1)
+        go : (k : ℕ) → k < h .m → wrap (h .m) (h .oldest + k) ≡ p → (t : Bool) → ltb k (h .pairs) ≡ t → (q ≡ placeSlot p) ⊎ (q ≡ placeSlot p + 1)
             → ScratchVector h q ⊎ (a q ≡ b q)
         go k f e true u (inl x) = inr (first-of k (ltb-true k (h .pairs) u) p q e x)
         go k f e true u (inr x) = inr (second-of k (ltb-true k (h .pairs) u) p q e x)
@@ -127,21 +127,21 @@ module _ (h : Shape) (ring : h .oldest < h .m) (most : h .pairs ≤ h .m) where
             omega (arith, again, less, past) in
             inl (ScratchVector.place p l unused x)
 
-    each-vector : (q : ℕ) → q < 16 + 4 * h .m → ScratchVector h q ⊎ (a q ≡ b q)
-    each-vector q m = go (ltb q 8) (ltb q 16) (ltb q (16 + 2 * h .m)) refl refl refl
+    each-vector : (q : ℕ) → q < vectors (h .m) → ScratchVector h q ⊎ (a q ≡ b q)
+    each-vector q m = go (ltb q 8) (ltb q 16) (ltb q (firstColumn (h .m))) refl refl refl
       where
-        ringed : (r : Half (q - 16)) → 16 ≤ q → q < 16 + 2 * h .m → ScratchVector h q ⊎ (a q ≡ b q)
+        ringed : (r : Half (q - 16)) → 16 ≤ q → q < firstColumn (h .m) → ScratchVector h q ⊎ (a q ≡ b q)
         ringed r l u = side (r .is)
           where
             side : (q - 16 ≡ 2 * r .place) ⊎ (q - 16 ≡ 2 * r .place + 1) → ScratchVector h q ⊎ (a q ≡ b q)
             side (inl e) = of-place (r .place) q (omega (arith, e, l, u)) (inl (omega (arith, e, l)))
             side (inr e) = of-place (r .place) q (omega (arith, e, l, u)) (inr (omega (arith, e, l)))
 
-        go : (s t u : Bool) → ltb q 8 ≡ s → ltb q 16 ≡ t → ltb q (16 + 2 * h .m) ≡ u → ScratchVector h q ⊎ (a q ≡ b q)
+        go : (s t u : Bool) → ltb q 8 ≡ s → ltb q 16 ≡ t → ltb q (firstColumn (h .m)) ≡ u → ScratchVector h q ⊎ (a q ≡ b q)
         go true t u e f g = inr (same .low q (ltb-true q 8 e))
         go false true u e f g = inl (ScratchVector.between (ltb-false q 8 e) (ltb-true q 16 f))
-        go false false true e f g = ringed (half (q - 16)) (ltb-false q 16 f) (ltb-true q (16 + 2 * h .m) g)
-        go false false false e f g = inl (ScratchVector.column (ltb-false q (16 + 2 * h .m) g) m)
+        go false false true e f g = ringed (half (q - 16)) (ltb-false q 16 f) (ltb-true q (firstColumn (h .m)) g)
+        go false false false e f g = inl (ScratchVector.column (ltb-false q (firstColumn (h .m)) g) m)
 
 -- ---- every word
 
@@ -174,22 +174,22 @@ module _ (h : Shape) (a b : List Float) (some : 0 < h .n) (sound : Sound h (leng
 
       go : (t : Bool) → ltb i (markAt h) ≡ t → Scratch h i ⊎ (word a i ≡ word b i)
       go true e =
-          let few : q < 16 + 4 * h .m = div-lt-iff-lt-mul some .1 (ltb-true i (markAt h) e) in
+          let few : q < vectors (h .m) = div-lt-iff-lt-mul some .1 (ltb-true i (markAt h) e) in
           inside (each-vector h (sound .ring) (sound .most) (view a (h .n)) (view b (h .n)) both q few)
       go false e = ⊎-elim (λ one. absurd (other (sym one))) (λ past. inl (Scratch.behind past)) (eq-or-lt-of-le (ltb-false i (markAt h) e))
 
   -- the other way: a vector that is not scratch is the same in both
   module _ (same : Same h a b) (long : length a ≡ length b) where
-    used : (q k : ℕ) → q < 16 + 4 * h .m → k < h .n → (ScratchVector h q → ⊥) → Scratch h (q * h .n + k) → ⊥
+    used : (q k : ℕ) → q < vectors (h .m) → k < h .n → (ScratchVector h q → ⊥) → Scratch h (q * h .n + k) → ⊥
     used q k m l n (Scratch.within r j e f s) =
         let one : r ≡ q = sym (digits-div r f) ∙ ap (λ (x : ℕ). x / h .n) (sym e) ∙ digits-div q l in
         n (subst (ScratchVector h) one s)
     used q k m l n (Scratch.behind e) = let below = digits-lt m l in omega (arith, below, e)
 
-    vector-same : (q : ℕ) → q < 16 + 4 * h .m → (ScratchVector h q → ⊥) → view a (h .n) q ≡ view b (h .n) q
+    vector-same : (q : ℕ) → q < vectors (h .m) → (ScratchVector h q → ⊥) → view a (h .n) q ≡ view b (h .n) q
     vector-same q m n =
-        let va = length-view a (h .n) q (room q (16 + 4 * h .m) (h .n) (length a) m (sound .all)) in
-        let vb = length-view b (h .n) q (room q (16 + 4 * h .m) (h .n) (length b) m (subst (λ (x : ℕ). (16 + 4 * h .m) * h .n ≤ x) long (sound .all))) in
+        let va = length-view a (h .n) q (room q (vectors (h .m)) (h .n) (length a) m (sound .all)) in
+        let vb = length-view b (h .n) q (room q (vectors (h .m)) (h .n) (length b) m (subst (λ (x : ℕ). vectors (h .m) * h .n ≤ x) long (sound .all))) in
         ext-getD Ieee.nan (view a (h .n) q) (view b (h .n) q) (va ∙ sym vb) (λ k l. viewed k (omega (arith, l, va)))
       where
         at : (k : ℕ) → k < h .n → word a (q * h .n + k) ≡ word b (q * h .n + k)
@@ -214,8 +214,8 @@ module _ (h : Shape) (a b : List Float) (some : 0 < h .n) (sound : Sound h (leng
         pairs k l =
             let p = wrap (h .m) (h .oldest + k) in
             let few = wrap-few h (sound .ring) (sound .most) k l in
-            let s = vector-same (16 + 2 * p) (omega (arith, few)) (place-used h (sound .ring) (sound .most) k p (16 + 2 * p) l refl few (inl refl)) in
-            let y = vector-same (16 + 2 * p + 1) (omega (arith, few)) (place-used h (sound .ring) (sound .most) k p (16 + 2 * p + 1) l refl few (inr refl)) in
+            let s = vector-same (placeSlot p) (omega (arith, few)) (place-used h (sound .ring) (sound .most) k p (placeSlot p) l refl few (inl refl)) in
+            let y = vector-same (placeSlot p + 1) (omega (arith, few)) (place-used h (sound .ring) (sound .most) k p (placeSlot p + 1) l refl few (inr refl)) in
             λ i. record { s = s i; y = y i }
 
 -- ---- the mark

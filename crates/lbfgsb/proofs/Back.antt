@@ -14,9 +14,10 @@ use Rattle.definition.specs.Number.{zero64}
 use Rattle.definition.specs.Problem.{Setup, Refusal, Check, refuse, when, _then_}
 use Rattle.definition.specs.Machine as M
 use Rattle.definition.specs.Log.{logWords, entriesKept}
+use Rattle.definition.specs.Book.{Book, book, struck}
 use Rattle.definition.specs.Record.{plainRefusal}
 use Rattle.definition.specs.History as H
-use Rattle.definition.specs.History.{Call, History, refusal, left, leftUnless, answerUnless}
+use Rattle.definition.specs.History.{Call, History, callRow, leftBy, refusedBy}
 use Rattle.problem.specs.Setups.{refusalOf}
 use Rattle.problem.specs.declared.Refusal as Q
 use Rattle.fit.specs.declared.Fit.{Fit}
@@ -36,7 +37,7 @@ use Rattle.rebuild.proofs.Reread.{log-kept, all-kept}
 -- ---- the check is the history's
 
 abbrev checkHeld : Words → ℕ → Check
-checkHeld w j = when (ltb (w .state .entries) j) (refuse 16 0 0) then when (ltb (length (w .log)) (w .state .words)) (refuse 12 0 0)
+checkHeld w j = when (ltb (w .state .extra .entries) j) (refuse 16 0 0) then when (ltb (length (w .log)) (w .state .extra .words)) (refuse 12 0 0)
 
 check-held : (w : Words) (j : ℕ) → isHeld (w .state) (w .area) ≡ true → checkBack w j ≡ checkHeld w j
 check-held w j h = rw h
@@ -44,11 +45,15 @@ check-held w j h = rw h
 check-empty : (w : Words) (j : ℕ) → isHeld (w .state) (w .area) ≡ false → checkBack w j ≡ when (ltb 0 j) (refuse 16 0 0)
 check-empty w j h = rw h
 
-check-same : (w : Words) (j : ℕ) (h : History) → Holds w h → refusal (lengths w) h (Call.takeBack j) ≡ checkBack w j
+check-same : (w : Words) (j : ℕ) (h : History) → Holds w h → callRow (lengths w) h (Call.takeBack j) .check ≡ checkBack w j
 check-same w j History.empty k = sym (check-empty w j k)
-check-same w j (History.fit s rs) k =
+check-same w j (History.fit b) k =
     ap₂ (λ (e c : ℕ). when (ltb e j) (refuse 16 0 0) then when (ltb (length (w .log)) c) (refuse 12 0 0)) (sym (k .stands .entries)) (sym (k .stands .words))
     ∙ sym (check-held w j (k .stands .test))
+
+-- what an accepted taking back of j leaves of a history
+abbrev leftOver : Words → History → ℕ → History
+leftOver w h j = callRow (lengths w) h (Call.takeBack j) .left
 
 -- ---- every word stays
 
@@ -56,8 +61,8 @@ back-refused : (w : Words) (j : ℕ) (r : Refusal) → checkBack w j ≡ some r 
 back-refused w j r e = record {
   did = record {
     sized = refl;
-    holds = λ h k. subst (λ (o : Check). Holds w (leftUnless o h (Call.takeBack j))) (sym (check-same w j h k ∙ e)) k;
-    said = λ h k. ap (λ (o : Check). answerUnless o h (Call.takeBack j)) (sym (check-same w j h k ∙ e));
+    holds = λ h k. subst (λ (o : Check). Holds w (leftBy o h (leftOver w h j))) (sym (check-same w j h k ∙ e)) k;
+    said = λ h k. ap (λ (o : Check). refusedBy o (callRow (lengths w) h (Call.takeBack j) .answer)) (sym (check-same w j h k ∙ e));
   };
   always = sym (rw e refl);
   back = subst (λ (o : Check). TakesBack j o w w) (sym e) refl;
@@ -70,14 +75,14 @@ back-by w j c r e h = subst (λ (x : Refusal). TakenBack j w w (H.Answer.refused
 pub unheld-refused : (w : Words) (j : ℕ) → isHeld (w .state) (w .area) ≡ false → 0 < j → checkBack w j ≡ some (plainRefusal 16)
 unheld-refused w j h l = check-empty w j h ∙ ap (λ (t : Bool). when t (refuse 16 0 0)) (lt-ltb 0 j l)
 
-pub many-refused : (w : Words) (j : ℕ) → isHeld (w .state) (w .area) ≡ true → w .state .entries < j → checkBack w j ≡ some (plainRefusal 16)
+pub many-refused : (w : Words) (j : ℕ) → isHeld (w .state) (w .area) ≡ true → w .state .extra .entries < j → checkBack w j ≡ some (plainRefusal 16)
 many-refused w j h l =
-    check-held w j h ∙ ap (λ (t : Bool). when t (refuse 16 0 0) then when (ltb (length (w .log)) (w .state .words)) (refuse 12 0 0)) (lt-ltb (w .state .entries) j l)
+    check-held w j h ∙ ap (λ (t : Bool). when t (refuse 16 0 0) then when (ltb (length (w .log)) (w .state .extra .words)) (refuse 12 0 0)) (lt-ltb (w .state .extra .entries) j l)
 
-pub short-refused : (w : Words) (j : ℕ) → isHeld (w .state) (w .area) ≡ true → j ≤ w .state .entries → length (w .log) < w .state .words → checkBack w j ≡ some (plainRefusal 12)
+pub short-refused : (w : Words) (j : ℕ) → isHeld (w .state) (w .area) ≡ true → j ≤ w .state .extra .entries → length (w .log) < w .state .extra .words → checkBack w j ≡ some (plainRefusal 12)
 short-refused w j h l k =
     check-held w j h
-    ∙ ap₂ (λ (t u : Bool). when t (refuse 16 0 0) then when u (refuse 12 0 0)) (le-ltb (w .state .entries) j l) (lt-ltb (length (w .log)) (w .state .words) k)
+    ∙ ap₂ (λ (t u : Bool). when t (refuse 16 0 0) then when u (refuse 12 0 0)) (le-ltb (w .state .extra .entries) j l) (lt-ltb (length (w .log)) (w .state .extra .words) k)
 
 pub unheld-kept : (w : Words) (j : ℕ) → isHeld (w .state) (w .area) ≡ false → j ≡ 0 → TakenBack j w w H.Answer.done
 unheld-kept w j h e =
@@ -85,16 +90,20 @@ unheld-kept w j h e =
     record {
       did = record {
         sized = refl;
-        holds = λ g k. subst (λ (o : Check). Holds w (leftUnless o g (Call.takeBack j))) (sym (check-same w j g k ∙ passed)) (stays g k);
-        said = λ g k. ap (λ (o : Check). answerUnless o g (Call.takeBack j)) (sym (check-same w j g k ∙ passed));
+        holds = λ g k. subst (λ (o : Check). Holds w (leftBy o g (leftOver w g j))) (sym (check-same w j g k ∙ passed)) (stays g k);
+        said = λ g k. says g k ∙ ap (λ (o : Check). refusedBy o (callRow (lengths w) g (Call.takeBack j) .answer)) (sym (check-same w j g k ∙ passed));
       };
       always = rw (passed, h) refl;
       back = subst (λ (o : Check). TakesBack j o w w) (sym passed) (rw h refl);
     }
   where
-    stays : (g : History) → Holds w g → Holds w (left g (Call.takeBack j))
+    stays : (g : History) → Holds w g → Holds w (leftOver w g j)
     stays History.empty k = k
-    stays (History.fit s rs) k = absurd (false≢true (sym h ∙ k .stands .test))
+    stays (History.fit b) k = absurd (false≢true (sym h ∙ k .stands .test))
+
+    says : (g : History) → Holds w g → H.Answer.done ≡ callRow (lengths w) g (Call.takeBack j) .answer
+    says History.empty k = refl
+    says (History.fit b) k = refl
 
 -- ---- words of a held fit
 
@@ -114,72 +123,72 @@ module _ (from to : ℕ) (l : List ℕ) (order : from ≤ to) (room : to ≤ len
   struck-front =
       ap (take from) (append-assoc (take from l) (replicate (to - from) 0) (drop to l)) ∙ take-at (take from l) (replicate (to - from) 0 ++ drop to l) from front-long
 
-module _ (t : Fit) (a : List Float) (l : List ℕ) (j : ℕ) (test : isHeld t a ≡ true) (few : j ≤ t .entries) (room : t .words ≤ length l) where
+module _ (t : Fit) (a : List Float) (l : List ℕ) (j : ℕ) (test : isHeld t a ≡ true) (few : j ≤ t .extra .entries) (room : t .extra .words ≤ length l) where
   abbrev was : Words
   was = words t a l
 
   passed : checkBack was j ≡ none
   passed =
       check-held was j test
-      ∙ ap₂ (λ (p q : Bool). when p (refuse 16 0 0) then when q (refuse 12 0 0)) (le-ltb (t .entries) j few) (le-ltb (length l) (t .words) room)
+      ∙ ap₂ (λ (p q : Bool). when p (refuse 16 0 0) then when q (refuse 12 0 0)) (le-ltb (t .extra .entries) j few) (le-ltb (length l) (t .extra .words) room)
 
   -- the replies of a history that the words hold, the last j struck
-  history-left : (s : Setup) (rs : List M.Reply) → Held was s rs → repliesLeft j was ≡ some (drop j rs)
-  history-left s rs h =
+  history-left : (b : Book) → Held was b → repliesLeft j was ≡ some (struck j b .replies)
+  history-left b h =
       let k = h .stands in
-      ap (λ (x : Setup). entriesKept x (length l) (t .entries - j) (logIn was)) (k .setup)
-      ∙ ap₂ (λ (i : ℕ) (ws : List ℕ). entriesKept s (length l) (i - j) ws) (k .entries) (k .log)
-      ∙ log-kept s (length l) rs (k .due) (omega (arith, k .words)) j (omega (arith, k .entries))
+      ap (λ (x : Setup). entriesKept x (t .extra .entries - j) (logIn was)) (k .setup)
+      ∙ ap₂ (λ (i : ℕ) (ws : List ℕ). entriesKept (b .setup) (i - j) ws) (k .entries) (k .log)
+      ∙ log-kept (b .setup) (b .replies) (k .due) j (omega (arith, k .entries))
 
   -- the part for any words gives the part for a history
   module _ (w : Words) (o : H.Answer) (sized : lengths w ≡ lengths was) (said : o ≡ stayAnswer (repliesLeft j was))
       (h : TakesReplies (repliesLeft j was) was w) where
-    taken-history : (s : Setup) (rs : List M.Reply) → Held was s rs → Held w s (drop j rs)
-    taken-history s rs k =
-        let left = subst (λ (q : Option (List M.Reply)). TakesReplies q was w) (history-left s rs k) h in
-        record { accepted = k .accepted; stands = subst (λ (x : Setup). Stands w x (drop j rs)) (k .stands .setup) (left .stands) }
+    taken-history : (b : Book) → Held was b → Held w (struck j b)
+    taken-history b k =
+        let left = subst (λ (q : Option (List M.Reply)). TakesReplies q was w) (history-left b k) h in
+        record { accepted = k .accepted; stands = subst (λ (x : Setup). Stands w (book x (struck j b .replies))) (k .stands .setup) (left .stands) }
 
-    holds-left : (g : History) → Holds was g → Holds w (left g (Call.takeBack j))
+    holds-left : (g : History) → Holds was g → Holds w (leftOver was g j)
     holds-left History.empty k = absurd (false≢true (sym k ∙ test))
-    holds-left (History.fit s rs) k = taken-history s rs k
+    holds-left (History.fit b) k = taken-history b k
 
-    says-done : (g : History) → Holds was g → o ≡ H.Answer.done
+    says-done : (g : History) → Holds was g → o ≡ callRow (lengths was) g (Call.takeBack j) .answer
     says-done History.empty k = absurd (false≢true (sym k ∙ test))
-    says-done (History.fit s rs) k = said ∙ ap stayAnswer (history-left s rs k)
+    says-done (History.fit b) k = said ∙ ap stayAnswer (history-left b k)
 
     held-back : TakenBack j was w o
     held-back = record {
       did = record {
         sized = sized;
-        holds = λ g k. subst (λ (c : Check). Holds w (leftUnless c g (Call.takeBack j))) (sym (check-same was j g k ∙ passed)) (holds-left g k);
-        said = λ g k. says-done g k ∙ ap (λ (c : Check). answerUnless c g (Call.takeBack j)) (sym (check-same was j g k ∙ passed));
+        holds = λ g k. subst (λ (c : Check). Holds w (leftBy c g (leftOver was g j))) (sym (check-same was j g k ∙ passed)) (holds-left g k);
+        said = λ g k. says-done g k ∙ ap (λ (c : Check). refusedBy c (callRow (lengths was) g (Call.takeBack j) .answer)) (sym (check-same was j g k ∙ passed));
       };
       always = rw (passed, test) said;
       back = subst (λ (c : Check). TakesBack j c was w) (sym passed) (rw test h);
     }
 
   -- the entries that are to stay are there
-  module _ (f : Fit) (b : List Float) (h : Built (setupOf was) (logIn was) (t .entries - j) (length l) (length a) f b) (all : f .entries ≡ t .entries - j)
+  module _ (f : Fit) (b : List Float) (h : Built (setupOf was) (logIn was) (t .extra .entries - j) (length l) a f b) (all : f .extra .entries ≡ t .extra .entries - j)
       (r : ReplayedTo (setupOf was) (logIn was) (length l) f b) where
-    fewer-words : f .words ≤ t .words
-    fewer-words = omega (arith, h .words, length-take-le (t .words) l room)
+    fewer-words : f .extra .words ≤ t .extra .words
+    fewer-words = omega (arith, h .words, length-take-le (t .extra .words) l room)
 
     abbrev now-log : List ℕ
-    now-log = struckOut (f .words) (t .words) l
+    now-log = struckOut (f .extra .words) (t .extra .words) l
 
     now-long : length now-log ≡ length l
-    now-long = struck-long (f .words) (t .words) l fewer-words room
+    now-long = struck-long (f .extra .words) (t .extra .words) l fewer-words room
 
     shortened : Shortened was (words f b now-log)
     shortened = record { words = fewer-words; log = refl }
 
     -- the log's front spells the replies
-    log-left : take (f .words) now-log ≡ logWords (r .replies)
+    log-left : take (f .extra .words) now-log ≡ logWords (r .replies)
     log-left =
-        struck-front (f .words) (t .words) l fewer-words room
-        ∙ sym (take-take (f .words) (t .words) l fewer-words)
-        ∙ ap (take (f .words)) (sym (r .spelled))
-        ∙ take-at (logWords (r .replies)) (drop (f .words) (logIn was)) (f .words) (sym (r .words))
+        struck-front (f .extra .words) (t .extra .words) l fewer-words room
+        ∙ sym (take-take (f .extra .words) (t .extra .words) l fewer-words)
+        ∙ ap (take (f .extra .words)) (sym (r .spelled))
+        ∙ take-at (logWords (r .replies)) (drop (f .extra .words) (logIn was)) (f .extra .words) (sym (r .words))
 
     taken : Taken (r .replies) was (words f b now-log)
     taken = record {
@@ -199,12 +208,12 @@ module _ (t : Fit) (a : List Float) (l : List ℕ) (j : ℕ) (test : isHeld t a 
 
     taken-back : TakenBack j was (words f b now-log) H.Answer.done
     taken-back =
-        let kept = sym (all-kept (t .entries - j) r all) in
+        let kept = sym (all-kept (t .extra .entries - j) (omega (arith, length-take-le (t .extra .words) l room)) r all) in
         held-back (words f b now-log) H.Answer.done (ap₂ (λ (x y : ℕ). record { area = x; log = y }) (h .long) now-long) (ap stayAnswer kept)
         (subst (λ (q : Option (List M.Reply)). TakesReplies q was (words f b now-log)) kept taken)
 
   -- one of them is refused
-  module _ (number : ℕ) (b : List Float) (h : Cut (setupOf was) (logIn was) (t .entries - j) (length l) (length a) number b) where
+  module _ (number : ℕ) (b : List Float) (h : Cut (setupOf was) (logIn was) (t .extra .entries - j) (length a) number b) where
     back-zeroed : TakenBack j was (words t b l) (H.Answer.refused (plainRefusal number))
     back-zeroed =
         held-back (words t b l) (H.Answer.refused (plainRefusal number))
@@ -214,11 +223,11 @@ module _ (t : Fit) (a : List Float) (l : List ℕ) (j : ℕ) (test : isHeld t a 
 
   -- ---- by what is built
 
-  built-back : (q : Replayed) (b : List Float) (m : List ℕ) → Stays (setupOf was) (logIn was) (t .entries - j) (length l) (length a) q b → Shortens q (t .words) l m
+  built-back : (q : Replayed) (b : List Float) (m : List ℕ) → Stays (setupOf was) (logIn was) (t .extra .entries - j) (length l) a q b → Shortens q (t .extra .words) l m
       → TakenBack j was (words (nextBy t q) b m) (keptBy q)
   built-back (R.Done f) b m h z = subst (λ (k : List ℕ). TakenBack j was (words f b k) H.Answer.done) (sym z) (taken-back f b (h .0) (h .1) (h .2))
   built-back (R.Refused i) b m h z = subst (λ (k : List ℕ). TakenBack j was (words t b k) (H.Answer.refused (plainRefusal i))) (sym z) (back-zeroed i b h)
 
   pub answered-back : (q : Replayed) (o : Answer) (b : List Float) (m : List ℕ) → ((t : Fit) → next t o ≡ nextBy t q) × (kept o ≡ keptBy q)
-      → Stays (setupOf was) (logIn was) (t .entries - j) (length l) (length a) q b × Shortens q (t .words) l m → TakenBack j was (words (next t o) b m) (kept o)
+      → Stays (setupOf was) (logIn was) (t .extra .entries - j) (length l) a q b × Shortens q (t .extra .words) l m → TakenBack j was (words (next t o) b m) (kept o)
   answered-back q o b m e h = rw (e .0 t, e .1) (built-back q b m (h .0) (h .1))

@@ -7,12 +7,13 @@ use mathlib.Core.Option.{Option, none, some}
 use native.Mathlib.Omega.{arith}
 use Rattle.definition.specs.Problem.{Setup, Check, dimension, either}
 use Rattle.definition.specs.Counters.{Termination}
-use Rattle.definition.specs.Machine.{Reply, Question, Report, Place, Phase, kindOf, unreported, question as questionOf, report as reportOf}
+use Rattle.definition.specs.Machine.{Reply, Question, Report, Place, Phase, firstWord, isValue, isFailure, kindOf, unreported, question as questionOf, reportNow as reportOf}
 use Rattle.definition.specs.Driver.{begin, run}
-use Rattle.definition.specs.Replies.{Accepted, Due, isValue, isFailure, countOf, valueIn, firstValue}
+use Rattle.definition.specs.Replies.{Accepted, Due, countOf, firstValue}
 use Rattle.definition.specs.Points.{Reported}
-use Rattle.definition.specs.History.{Call, Answer, History, refusal, answerUnless, historyAfter}
-use Rattle.definition.proofs.Counts.{nfev-counts-values, nit-counts-notices, njev-counts-gradients, drawn-is-nfev, nfev-within-budget, nit-within-budget}
+use Rattle.definition.specs.Book.{Book, runOf}
+use Rattle.definition.specs.History.{Call, Answer, History, callRow, refusedBy, historyAfter}
+use Rattle.definition.proofs.Counts.{nfev-counts-values, nit-counts-notices, njev-counts-gradients, nfev-within-budget, nit-within-budget}
 use Rattle.definition.proofs.Bound.{replies-bounded, ended-with-most-replies}
 use Rattle.definition.proofs.Statuses.{status-means}
 use Rattle.definition.proofs.Sizes.{sizes}
@@ -63,19 +64,15 @@ reported s rs a d v = go (run s rs .phase) refl
 abbrev First : Option ℕ → Type 0
 First o = (w : ℕ) × (o ≡ some w)
 
-first-in : (f : Option ℕ) (q : Reply) (n : ℕ) → 1 ≤ n + cond (isValue q) 1 0 → (1 ≤ n → First f) → First (either f (valueIn q))
-first-in (some w) q n m h = (w, refl)
-first-in none (Reply.value v) n m h = (v, refl)
-first-in none (Reply.gradient ws) n m h = h (omega (arith, m))
-first-in none Reply.notSupplied n m h = h (omega (arith, m))
-first-in none Reply.goOn n m h = h (omega (arith, m))
-first-in none Reply.stop n m h = h (omega (arith, m))
-first-in none Reply.failure n m h = h (omega (arith, m))
+first-in : (f : Option ℕ) (t : Bool) (w n : ℕ) → 1 ≤ n + cond t 1 0 → (1 ≤ n → First f) → First (either f (cond t (some w) none))
+first-in (some v) t w n m h = (v, refl)
+first-in none true w n m h = (w, refl)
+first-in none false w n m h = h (omega (arith, m))
 
 first-given : (rs : List Reply) → 1 ≤ countOf isValue rs → First (firstValue rs)
 unfolding countOf firstValue
 first-given [] n = absurd (omega arith)
-first-given (r ∷ rs) n = first-in (firstValue rs) r (countOf isValue rs) n (first-given rs)
+first-given (r ∷ rs) n = first-in (firstValue rs) (isValue r) (firstWord r) (countOf isValue rs) n (first-given rs)
 
 -- ---- the theorems
 
@@ -93,29 +90,33 @@ fitted s rs a d v =
       nfev = nfev-counts-values s rs a d (v .whole);
       nit = nit-counts-notices s rs a d (v .whole);
       njev = njev-counts-gradients s rs a d;
-      drawn = drawn-is-nfev s rs a d;
+      drawn = refl;
       values = nfev-within-budget s rs a d;
       iterations = nit-within-budget s rs a d;
     }
 
 -- after every list of calls the fit held, with or without a value reply, after a failure too, has at most so many replies
 pub every-fit-bounded :
-    {w w' : Words} {cs : List Call} {os : List Answer} {s : Setup} {rs : List Reply}
-    → Allowed w cs os → Chain Called w cs os w' → historyAfter (lengths w) History.empty cs ≡ History.fit s rs → Bounded s rs
-every-fit-bounded {s} {rs} p ch e =
-    let sound = every-allowed-list p ch .keeps s rs e .sound in
-    record { most = replies-bounded s rs (sound .accepted) (sound .due); ended = ended-with-most-replies s rs (sound .accepted) (sound .due) }
+    {w w' : Words} {cs : List Call} {os : List Answer} {b : Book}
+    → Allowed w cs os → Chain Called w cs os w' → historyAfter (lengths w) History.empty cs ≡ History.fit b → Bounded (b .setup) (b .replies)
+every-fit-bounded {b = b} p ch e =
+    let sound = every-allowed-list p ch .keeps b e .sound in
+    record {
+      most = replies-bounded (b .setup) (b .replies) (sound .accepted) (sound .due);
+      ended = ended-with-most-replies (b .setup) (b .replies) (sound .accepted) (sound .due);
+    }
 
 -- after every list of calls, a report into n floats or more answers such a report
 pub every-report :
-    {w w' v : Words} {cs : List Call} {os : List Answer} {s : Setup} {rs : List Reply} {room : ℕ} {o : Answer}
-    → Allowed w cs os → Chain Called w cs os w' → historyAfter (lengths w) History.empty cs ≡ History.fit s rs → Valued rs
-    → Called (Call.report room) w' v o → dimension s ≤ room
-    → (r : Report) × (o ≡ Answer.reported r) × Fitted s rs r
-every-report {s} {rs} p ch e v d l =
-    let k = every-allowed-list p ch .keeps s rs e in
+    {w w' v : Words} {cs : List Call} {os : List Answer} {b : Book} {room : ℕ} {o : Answer}
+    → Allowed w cs os → Chain Called w cs os w' → historyAfter (lengths w) History.empty cs ≡ History.fit b → Valued (b .replies)
+    → Called (Call.report room) w' v o → dimension (b .setup) ≤ room
+    → (r : Report) × (o ≡ Answer.reported r) × Fitted (b .setup) (b .replies) r
+every-report {b = b} p ch e v d l =
+    let k = every-allowed-list p ch .keeps b e in
     let sound = k .sound in
-    (reportOf (run s rs), k .report d (reported s rs (sound .accepted) (sound .due) v) l, fitted s rs (sound .accepted) (sound .due) v)
+    let reports = reported (b .setup) (b .replies) (sound .accepted) (sound .due) v in
+    (reportOf (runOf b), k .report d reports l, fitted (b .setup) (b .replies) (sound .accepted) (sound .due) v)
 
 -- ---- the open question
 
@@ -133,18 +134,19 @@ questionIn (Answer.entered ws) = none
 questionIn (Answer.saved bs) = none
 
 -- an answer that asks has the definition's question
-question-is : (s : Setup) (rs : List Reply) (room : ℕ) (q : Question) (c : Check) → Answer.asked (some q) ≡ answerUnless c (History.fit s rs) (Call.question room)
-    → questionOf (run s rs) ≡ some q
-question-is s rs room q none e = ap questionIn (sym e)
-question-is s rs room q (some r) e = absurd (false≢true (ap (λ (a : Answer). present (questionIn a)) (sym e)))
+question-is : (o : Option Question) (q : Question) (c : Check) → Answer.asked (some q) ≡ refusedBy c (Answer.asked o) → o ≡ some q
+question-is o q none e = ap questionIn (sym e)
+question-is o q (some r) e = absurd (false≢true (ap (λ (a : Answer). present (questionIn a)) (sym e)))
 
 -- after every list of calls, a question that is asked is of a point in the box, with no NaN
 pub every-question :
-    {w w' v : Words} {cs : List Call} {os : List Answer} {s : Setup} {rs : List Reply} {room : ℕ} {q : Question}
-    → Allowed w cs os → Chain Called w cs os w' → historyAfter (lengths w) History.empty cs ≡ History.fit s rs
-    → Called (Call.question room) w' v (Answer.asked (some q)) → Asks s q
-every-question {w} {w'} {cs} {s} {rs} {room} {q} p ch e d =
-    let sound = every-allowed-list p ch .keeps s rs e .sound in
+    {w w' v : Words} {cs : List Call} {os : List Answer} {b : Book} {room : ℕ} {q : Question}
+    → Allowed w cs os → Chain Called w cs os w' → historyAfter (lengths w) History.empty cs ≡ History.fit b
+    → Called (Call.question room) w' v (Answer.asked (some q)) → Asks (b .setup) q
+every-question {w} {w'} {cs} {b = b} {room} {q} p ch e d =
+    let s = b .setup in
+    let rs = b .replies in
+    let sound = every-allowed-list p ch .keeps b e .sound in
     let h = subst (Holds w') e (after p ch .holds) in
-    let is = question-is s rs room q (refusal (lengths w') (History.fit s rs) (Call.question room)) (did d .said (History.fit s rs) h) in
+    let is = question-is (questionOf (runOf b)) q (callRow (lengths w') (History.fit b) (Call.question room) .check) (did d .said (History.fit b) h) in
     record { box = asked-in-box s rs (sound .accepted) (sound .due) q is; number = asked-not-nan s rs (sound .accepted) (sound .due) q is }

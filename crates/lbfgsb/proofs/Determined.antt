@@ -11,6 +11,7 @@ use Rattle.definition.specs.Number.{zero64}
 use Rattle.definition.specs.Problem as P
 use Rattle.definition.specs.Compact.{pairOf}
 use Rattle.definition.specs.Counters as C
+use Rattle.definition.specs.Book.{Book}
 use Rattle.definition.specs.Machine as M
 use Rattle.area.specs.Area.{view}
 use Rattle.problem.specs.Setups.{floatOf, countOf, schemeOf, boundsIn}
@@ -158,7 +159,7 @@ module _ (w v : Words) (e : machineIn w ≡ machineIn v) where
   same-limits = λ i. record { ftol = e i .limits .ftol; gtol = e i .limits .gtol; maxiter = e i .limits .maxiter; maxfev = e i .limits .maxfev }
 
   same-counters : w .state .counters ≡ v .state .counters
-  same-counters = λ i. record { nit = e i .counters .nit; nfev = e i .counters .nfev; njev = e i .counters .njev; drawn = e i .counters .drawn }
+  same-counters = λ i. record { nit = e i .counters .nit; nfev = e i .counters .nfev; njev = e i .counters .njev }
 
   same-phase : w .state .phase ≡ v .state .phase
   same-phase = apart phaseOf phaseBack phase-back (w .state .phase) (v .state .phase) (ap (λ (m : M.Machine). m .phase) e)
@@ -230,18 +231,18 @@ module _ (w v : Words) (d : setupOf w ≡ setupOf v) where
 
 -- ---- the words
 
-module _ {w v : Words} {s : P.Setup} {rs : List M.Reply} (h : Stands w s rs) (k : Stands v s rs) where
+module _ {w v : Words} {b : Book} (h : Stands w b) (k : Stands v b) where
   same-machine : machineIn w ≡ machineIn v
   same-machine = h .is ∙ sym (k .is)
 
   same-setup : setupOf w ≡ setupOf v
   same-setup = h .setup ∙ sym (k .setup)
 
-  same-entries : w .state .entries ≡ v .state .entries
-  same-entries = h .entries ∙ sym (k .entries)
-
-  same-words : w .state .words ≡ v .state .words
-  same-words = h .words ∙ sym (k .words)
+  same-extra : w .state .extra ≡ v .state .extra
+  same-extra =
+      let entries = h .entries ∙ sym (k .entries) in
+      let words = h .words ∙ sym (k .words) in
+      λ i. record { entries = entries i; words = words i }
 
   pub determined : w .state ≡ v .state
   determined =
@@ -253,8 +254,7 @@ module _ {w v : Words} {s : P.Setup} {rs : List M.Reply} (h : Stands w s rs) (k 
       let phase = same-phase w v e in
       let search = same-search w v e (h .settled) (k .settled) in
       let trials = same-trials w v e in
-      let entries = same-entries in
-      let words = same-words in
+      let extra = same-extra in
       λ i. record {
         shape = shape i;
         options = options i;
@@ -268,8 +268,7 @@ module _ {w v : Words} {s : P.Setup} {rs : List M.Reply} (h : Stands w s rs) (k 
         right = e i .rightValue;
         before = e i .before;
         theta = e i .compact .theta;
-        entries = entries i;
-        words = words i;
+        extra = extra i;
       }
 
   -- the first eight vectors

@@ -13,15 +13,16 @@ use lib.Seq.{length-take-le, take-append-seam, drop-append-seam, drop-append-le,
 use borrow.Author.Tests.{ltb-false}
 use Rattle.definition.specs.Problem.{Setup, Refusal, Check, refuse, when, _then_, validate}
 use Rattle.definition.specs.Machine.{Reply, checkDue}
-use Rattle.definition.specs.Log.{entryWords, logWords}
+use Rattle.definition.specs.Log.{entryWords}
 use Rattle.definition.specs.Record.{Reading, checkArea, plainRefusal, readRecord}
 use Rattle.definition.specs.Sound.{atEntry}
-use Rattle.definition.specs.History.{Call, Answer, refusalsOf, restoredAnswer}
+use Rattle.definition.specs.Book.{Book, logOf}
+use Rattle.definition.specs.History.{Call, Answer, refusalsOf, refusedBy, restoredAnswer}
 use Rattle.definition.proofs.Accepted.{both-passed, test-failed}
 use Rattle.definition.proofs.Numbered.{AnswerNumbered}
 use Rattle.driver.specs.Replies.{isHeld}
 use Rattle.lbfgsb.specs.Words.{Words, lengths, machineIn, logIn}
-use Rattle.lbfgsb.specs.Table.{refusedBy, checkAt, shortLog, checkBack, repliesLeft, stayAnswer, answerAt, isNone, zeroed}
+use Rattle.lbfgsb.specs.Table.{checkAt, shortLog, checkBack, repliesLeft, stayAnswer, answerAt, isNone, zeroed}
 use Rattle.lbfgsb.specs.Did.{Started, Restored, Restores, Loaded, Moved, Replied, Shortened, TakenBack, TakesReplies, TakesBack}
 use Rattle.lbfgsb.specs.Chain.{Chain, isRefused, Advanced, ReadIn, Stay, Past, Struck, Exact, Answered}
 use Rattle.lbfgsb.proofs.Trace.{Called, by-start, by-restore, by-reply, by-take-back, by-question, by-report, by-replies, by-entry, by-save}
@@ -74,7 +75,7 @@ to-entry : (front entry back : List ℕ) (k m : ℕ) → length front ≡ k → 
 to-entry front entry back k m e q = take-at (front ++ entry) back m (omega (arith, e, q, length-append front entry))
 
 same-past : {w w' : Words} → w' ≡ w → Past w w'
-same-past {w} {w'} e = ap (λ (x : Words). drop (w' .state .words) (x .log)) e
+same-past {w} {w'} e = ap (λ (x : Words). drop (w' .state .extra .words) (x .log)) e
 
 -- ---- start
 
@@ -94,11 +95,11 @@ start-exact {s} {w} {w'} {o} l = record {
 
 -- ---- restore
 
-loaded-past : {s : Setup} {rs : List Reply} {w w' : Words} → Loaded s rs w w' → Past w w'
-loaded-past {s} {rs} {w} {w'} l =
+loaded-past : {b : Book} {w w' : Words} → Loaded b w w' → Past w w'
+loaded-past {b} {w} {w'} l =
     let k = l .held .stands .words in
-    ap (drop (w' .state .words)) (l .log)
-    ∙ drop-at (logWords rs) (drop (length (logWords rs)) (w .log)) (w' .state .words) (sym k)
+    ap (drop (w' .state .extra .words)) (l .log)
+    ∙ drop-at (logOf b) (drop (length (logOf b)) (w .log)) (w' .state .extra .words) (sym k)
     ∙ ap (λ (i : ℕ). drop i (w .log)) (sym k)
 
 restore-exact : {bs : List ℕ} {w w' : Words} {o : Answer} → Restored bs w w' o → Exact (Call.restore bs) w w' o
@@ -113,37 +114,37 @@ restore-exact {bs} {w} {w'} {o} l =
     }
   where
     left : (d : Reading) → o ≡ restoredAnswer d → Restores d w w' → isRefused o ≡ true → w' ≡ cond (atEntry d) (zeroed w) w
-    left (Reading.accepted s rs) e x t = absurd (not-refused t e refl)
+    left (Reading.accepted b) e x t = absurd (not-refused t e refl)
     left (Reading.refused c) e x t = x
     left (Reading.refusedAtEntry c) e x t = x
 
     read : (d : Reading) → o ≡ restoredAnswer d → Restores d w w' → isRefused o ≡ false → ReadIn d w'
-    read (Reading.accepted s rs) e x f = x .held .stands
+    read (Reading.accepted b) e x f = x .held .stands
     read (Reading.refused c) e x f = true≢false (ap isRefused (sym e) ∙ f)
     read (Reading.refusedAtEntry c) e x f = true≢false (ap isRefused (sym e) ∙ f)
 
     past : (d : Reading) → Restores d w w' → Past w w'
-    past (Reading.accepted s rs) x = loaded-past x
+    past (Reading.accepted b) x = loaded-past x
     past (Reading.refused c) x = same-past x
-    past (Reading.refusedAtEntry c) x = ap (λ (v : Words). drop (w' .state .words) (v .log)) x
+    past (Reading.refusedAtEntry c) x = ap (λ (v : Words). drop (w' .state .extra .words) (v .log)) x
 
 -- ---- reply
 
 -- what an accepted reply passed: a fit is held, and its entry has room
 record Room (r : Reply) (w : Words) : Type 0 where
-  room : w .state .words + length (entryWords r) ≤ length (w .log)
+  room : w .state .extra .words + length (entryWords r) ≤ length (w .log)
 
 with-room : (r : Reply) (w : Words) → isRefused (answerAt (Call.reply r) w) ≡ false → Room r w
 with-room r w e = go (isHeld (w .state) (w .area)) e
   where
     full : Bool
-    full = ltb (length (w .log)) (w .state .words + length (entryWords r))
+    full = ltb (length (w .log)) (w .state .extra .words + length (entryWords r))
 
     go : (b : Bool) → isRefused (cond b (refusedBy (checkAt w r) Answer.done) (Answer.refused (plainRefusal 13))) ≡ false → Room r w
     go false f = absurd (true≢false f)
     go true f =
         let p = both-passed (checkDue (machineIn w) r) (when full (refuse 12 0 0)) (unrefused (checkAt w r) Answer.done f) in
-        record { room = ltb-false (length (w .log)) (w .state .words + length (entryWords r)) (test-failed full (plainRefusal 12) (p .1)) }
+        record { room = ltb-false (length (w .log)) (w .state .extra .words + length (entryWords r)) (test-failed full (plainRefusal 12) (p .1)) }
 
 reply-exact : {r : Reply} {w w' : Words} {o : Answer} → Replied r w w' o → Exact (Call.reply r) w w' o
 reply-exact {r} {w} {w'} {o} l = record {
@@ -169,38 +170,38 @@ reply-exact {r} {w} {w'} {o} l = record {
         go true (some c) f = absurd (true≢false f)
         go false c f = absurd (true≢false f)
 
-    front : isRefused o ≡ false → length (logIn w) ≡ w .state .words
-    front f = length-take-le (w .state .words) (w .log) (omega (arith, room f .room))
+    front : isRefused o ≡ false → length (logIn w) ≡ w .state .extra .words
+    front f = length-take-le (w .state .extra .words) (w .log) (omega (arith, room f .room))
 
     advanced : isRefused o ≡ false → Moved r w w' → Advanced r w w'
     advanced f m =
-        let back = drop (w' .state .words) (w .log) in
+        let back = drop (w' .state .extra .words) (w .log) in
         record {
           machine = m .is;
           setup = m .setup;
           replies = m .entries;
-          log = ap (take (w' .state .words)) (m .log) ∙ to-entry (logIn w) (entryWords r) back (w .state .words) (w' .state .words) (front f) (m .words);
+          log = ap (take (w' .state .extra .words)) (m .log) ∙ to-entry (logIn w) (entryWords r) back (w .state .extra .words) (w' .state .extra .words) (front f) (m .words);
         }
 
     past : (b : Bool) → isRefused o ≡ b → Past w w'
     past true t = same-past (kept t)
     past false f =
         let m = l .moved (done f) in
-        ap (drop (w' .state .words)) (m .log)
-        ∙ past-entry (logIn w) (entryWords r) (drop (w' .state .words) (w .log)) (w .state .words) (w' .state .words) (front f) (m .words)
+        ap (drop (w' .state .extra .words)) (m .log)
+        ∙ past-entry (logIn w) (entryWords r) (drop (w' .state .extra .words) (w .log)) (w .state .extra .words) (w' .state .extra .words) (front f) (m .words)
 
 -- ---- take back
 
-none-struck : (w : Words) → w .state .words - w .state .words ≡ 0
+none-struck : (w : Words) → w .state .extra .words - w .state .extra .words ≡ 0
 none-struck w = omega arith
 
 struck-none : {w w' : Words} → w' ≡ w → Struck w w'
 struck-none {w} e = subst (Struck w) (sym e) (record { fewer = omega arith; zeroed = rw (none-struck w) refl; past = refl })
 
-struck : {w w' : Words} → Shortened w w' → w .state .words ≤ length (w .log) → Struck w w'
+struck : {w w' : Words} → Shortened w w' → w .state .extra .words ≤ length (w .log) → Struck w w'
 struck {w} {w'} t l =
-    let k = w' .state .words in
-    let n = w .state .words in
+    let k = w' .state .extra .words in
+    let n = w .state .extra .words in
     let fewer = t .words in
     let front = take k (w .log) in
     let zeros : List ℕ = replicate (n - k) 0 in
@@ -214,11 +215,11 @@ struck {w} {w'} t l =
     }
 
 -- the log of a held fit that passed the checks has all its words
-back-room : (w : Words) (j : ℕ) → isHeld (w .state) (w .area) ≡ true → checkBack w j ≡ none → w .state .words ≤ length (w .log)
+back-room : (w : Words) (j : ℕ) → isHeld (w .state) (w .area) ≡ true → checkBack w j ≡ none → w .state .extra .words ≤ length (w .log)
 back-room w j h e =
-    let short = ltb (length (w .log)) (w .state .words) in
-    let p = both-passed (when (ltb (w .state .entries) j) (refuse 16 0 0)) (shortLog w) (rw h at e) in
-    ltb-false (length (w .log)) (w .state .words) (test-failed short (plainRefusal 12) (p .1))
+    let short = ltb (length (w .log)) (w .state .extra .words) in
+    let p = both-passed (when (ltb (w .state .extra .entries) j) (refuse 16 0 0)) (shortLog w) (rw h at e) in
+    ltb-false (length (w .log)) (w .state .extra .words) (test-failed short (plainRefusal 12) (p .1))
 
 -- by whether a fit is held, what the checks say, and the replies that are to stay
 record Back (b : Bool) (c : Check) (q : Option (List Reply)) (w w' : Words) (o : Answer) : Type 0 where
@@ -232,7 +233,7 @@ Leaves b (some r) q w w' = w' ≡ w
 Leaves b none q w w' = cond b (TakesReplies q w w') (w' ≡ w)
 
 back-by :
-    (b : Bool) (c : Check) (q : Option (List Reply)) (w w' : Words) (o : Answer) → (b ≡ true → c ≡ none → w .state .words ≤ length (w .log))
+    (b : Bool) (c : Check) (q : Option (List Reply)) (w w' : Words) (o : Answer) → (b ≡ true → c ≡ none → w .state .extra .words ≤ length (w .log))
     → o ≡ refusedBy c (cond b (stayAnswer q) Answer.done) → Leaves b c q w w' → Back b c q w w' o
 back-by true (some r) q w w' o l e x = record { refused = λ t. x; result = λ f. absurd (true≢false (ap isRefused (sym e) ∙ f)); past = struck-none x }
 back-by false (some r) q w w' o l e x = record { refused = λ t. x; result = λ f. x; past = struck-none x }

@@ -10,13 +10,13 @@ use lib.Dec.{ltb}
 use lib.ListN.{length}
 use Rattle.definition.specs.Problem.{Refusal, Check, refuse, when, _then_}
 use Rattle.definition.specs.Machine.{Reply}
-use Rattle.definition.specs.Log.{logWords}
+use Rattle.definition.specs.Book.{logOf}
 use Rattle.definition.specs.Record.{Lengths, plainRefusal}
 use Rattle.definition.specs.Sound.{refusedAtEntry}
-use Rattle.definition.specs.History.{Call, Answer, History, answerUnless, historyAnswer, historyAfter}
+use Rattle.definition.specs.History.{Call, Answer, History, refusedBy, historyAnswer, historyAfter}
 use Rattle.driver.specs.Replies.{isHeld}
 use Rattle.lbfgsb.specs.Words.{Words, lengths, Holds}
-use Rattle.lbfgsb.specs.Table.{refusedBy, checkBack, repliesLeft, stayAnswer, answerAt, isNone, entryRefused, zeroed}
+use Rattle.lbfgsb.specs.Table.{checkBack, repliesLeft, stayAnswer, answerAt, isNone, entryRefused, zeroed}
 use Rattle.lbfgsb.specs.Chain.{Chain, Allowed, Exact, Leaves}
 use Rattle.lbfgsb.proofs.Trace.{Called, did, after}
 use Rattle.lbfgsb.proofs.Exact.{exact}
@@ -36,12 +36,12 @@ numberOf (Answer.saved bs) = 0
 no-17 : (z : Lengths) (h : History) (j : ℕ) → historyAnswer z h (Call.takeBack j) ≡ Answer.refused (plainRefusal 17) → ⊥
 no-17 z History.empty j e = go (ltb 0 j) (ap numberOf e)
   where
-    go : (t : Bool) → numberOf (answerUnless (when t (refuse 16 0 0)) History.empty (Call.takeBack j)) ≡ 17 → ⊥
+    go : (t : Bool) → numberOf (refusedBy (when t (refuse 16 0 0)) Answer.done) ≡ 17 → ⊥
     go true q = omega (arith, q)
     go false q = omega (arith, q)
-no-17 z (History.fit s rs) j e = go (ltb (length rs) j) (ltb (z .log) (length (logWords rs))) (ap numberOf e)
+no-17 z (History.fit b) j e = go (ltb (length (b .replies)) j) (ltb (z .log) (length (logOf b))) (ap numberOf e)
   where
-    go : (t u : Bool) → numberOf (answerUnless (when t (refuse 16 0 0) then when u (refuse 12 0 0)) (History.fit s rs) (Call.takeBack j)) ≡ 17 → ⊥
+    go : (t u : Bool) → numberOf (refusedBy (when t (refuse 16 0 0) then when u (refuse 12 0 0)) Answer.done) ≡ 17 → ⊥
     go true u q = omega (arith, q)
     go false true q = omega (arith, q)
     go false false q = omega (arith, q)

@@ -16,17 +16,15 @@ use lib.Ieee.{Float}
 use Rattle.definition.specs.Number.{zero64, one64}
 use Rattle.definition.specs.Vector.{word}
 use Rattle.definition.specs.Problem.{Setup, Check, validate, _then_, dimension}
-use Rattle.definition.specs.Machine.{Reply, Question, question as questionOf, report as reportOf, unreported}
-use Rattle.definition.specs.Driver.{run}
-use Rattle.definition.specs.Log.{logWords}
+use Rattle.definition.specs.Machine.{Question, question as questionOf, reportNow as reportOf, unreported}
+use Rattle.definition.specs.Book.{Book, openedBook, runOf, logOf, entryAt}
 use Rattle.definition.specs.Record.{Lengths, Reading, plainRefusal, checkArea, readRecord, recordWords, recordBytes}
 use Rattle.definition.specs.Sound.{Sound}
-use Rattle.definition.specs.History.{Call, Answer, History, entryAt, checkQuestion, leftUnless, answerUnless, restored, restoredAnswer, historyStep, historyAnswer, historyAfter, historyAnswers}
-use Rattle.definition.proofs.Histories.{history-sound}
+use Rattle.definition.specs.History.{Call, Answer, History, checkQuestion, leftBy, refusedBy, restored, restoredAnswer, historyStep, historyAnswer, historyAfter, historyAnswers}
+use Rattle.definition.proofs.Histories.{isRead, read-stays, history-sound}
 use Rattle.driver.specs.Replies.{isHeld, markAt, marked, isReady}
 use Rattle.lbfgsb.specs.Words.{Words, lengths, Held, Holds}
 use Rattle.lbfgsb.specs.Did.{Did, Opening, Stepped, Started, Restored, Restores}
-use Rattle.lbfgsb.specs.Table.{refusedBy}
 use Rattle.lbfgsb.specs.Chain.{Chain, Blank, Opens, Allowed, FitIn, HasFit, Keeps, KeepsNone, After, Demand}
 
 -- ---- words that hold no fit
@@ -75,36 +73,33 @@ zeros-blank w k e = record { zeros = subst (λ (a : List Float). (i : ℕ) → i
 
 pub fitted : (w : Words) (h : History) → Holds w h → FitIn w ↔ HasFit h
 fitted w History.empty k = ((λ e. false≢true (sym k ∙ e)), (λ x. absurd x))
-fitted w (History.fit s rs) k = ((λ e. tt), (λ x. k .stands .test))
+fitted w (History.fit b) k = ((λ e. tt), (λ x. k .stands .test))
 
 -- ---- the history's answers, where no output is too short
 
-question-answer : (z : Lengths) (s : Setup) (rs : List Reply) (room : ℕ) → dimension s ≤ room
-    → historyAnswer z (History.fit s rs) (Call.question room) ≡ Answer.asked (questionOf (run s rs))
-question-answer z s rs room l = ap (λ (c : Check). answerUnless c (History.fit s rs) (Call.question room)) (go (questionOf (run s rs)))
+question-answer : (z : Lengths) (b : Book) (room : ℕ) → dimension (b .setup) ≤ room
+    → historyAnswer z (History.fit b) (Call.question room) ≡ Answer.asked (questionOf (runOf b))
+question-answer z b room l = ap (λ (c : Check). refusedBy c (Answer.asked (questionOf (runOf b)))) (go (questionOf (runOf b)))
   where
-    go : (q : Option Question) → checkQuestion s room q ≡ none
+    go : (q : Option Question) → checkQuestion b room q ≡ none
     go none = refl
-    go (some q) = rw (le-ltb room (dimension s) l) refl
+    go (some q) = rw (le-ltb room (dimension (b .setup)) l) refl
 
-report-answer : (z : Lengths) (s : Setup) (rs : List Reply) (room : ℕ) → unreported (run s rs .phase) ≡ false → dimension s ≤ room
-    → historyAnswer z (History.fit s rs) (Call.report room) ≡ Answer.reported (reportOf (run s rs))
-report-answer z s rs room e l =
-    rw (e, le-ltb room (dimension s) l) refl
+report-answer : (z : Lengths) (b : Book) (room : ℕ) → unreported (runOf b .phase) ≡ false → dimension (b .setup) ≤ room
+    → historyAnswer z (History.fit b) (Call.report room) ≡ Answer.reported (reportOf (runOf b))
+report-answer z b room e l = rw (e, le-ltb room (dimension (b .setup)) l) refl
 
-withheld-answer : (z : Lengths) (s : Setup) (rs : List Reply) (room : ℕ) → unreported (run s rs .phase) ≡ true
-    → historyAnswer z (History.fit s rs) (Call.report room) ≡ Answer.refused (plainRefusal 15)
-withheld-answer z s rs room e = rw e refl
+withheld-answer : (z : Lengths) (b : Book) (room : ℕ) → unreported (runOf b .phase) ≡ true
+    → historyAnswer z (History.fit b) (Call.report room) ≡ Answer.refused (plainRefusal 15)
+withheld-answer z b room e = rw e refl
 
-entry-answer : (z : Lengths) (s : Setup) (rs : List Reply) (k room : ℕ) → length (logWords rs) ≤ z .log → length (entryAt rs k) ≤ room
-    → historyAnswer z (History.fit s rs) (Call.entry k room) ≡ Answer.entered (entryAt rs k)
-entry-answer z s rs k room f l =
-    rw (le-ltb (z .log) (length (logWords rs)) f, le-ltb room (length (entryAt rs k)) l) refl
+entry-answer : (z : Lengths) (b : Book) (k room : ℕ) → length (logOf b) ≤ z .log → length (entryAt (b .replies) k) ≤ room
+    → historyAnswer z (History.fit b) (Call.entry k room) ≡ Answer.entered (entryAt (b .replies) k)
+entry-answer z b k room f l = rw (le-ltb (z .log) (length (logOf b)) f, le-ltb room (length (entryAt (b .replies) k)) l) refl
 
-save-answer : (z : Lengths) (s : Setup) (rs : List Reply) (room : ℕ) → length (logWords rs) ≤ z .log → 8 * length (recordWords s rs) ≤ room
-    → historyAnswer z (History.fit s rs) (Call.save room) ≡ Answer.saved (recordBytes s rs)
-save-answer z s rs room f l =
-    rw (le-ltb (z .log) (length (logWords rs)) f, le-ltb room (8 * length (recordWords s rs)) l) refl
+save-answer : (z : Lengths) (b : Book) (room : ℕ) → length (logOf b) ≤ z .log → 8 * length (recordWords b) ≤ room
+    → historyAnswer z (History.fit b) (Call.save room) ≡ Answer.saved (recordBytes b)
+save-answer z b room f l = rw (le-ltb (z .log) (length (logOf b)) f, le-ltb room (8 * length (recordWords b)) l) refl
 
 back-answer : (z : Lengths) (j : ℕ) → 0 < j → historyAnswer z History.empty (Call.takeBack j) ≡ Answer.refused (plainRefusal 16)
 back-answer z j l = rw (lt-ltb 0 j l) refl
@@ -117,20 +112,25 @@ check-passed (some r) e = cc
 
 start-said : {s : Setup} {w w' : Words} → Started s w w' Answer.done → Answer.done ≡ historyAnswer (lengths w) History.empty (Call.start s)
 start-said {s} {w} k =
-    sym (ap (λ (c : Check). answerUnless c History.empty (Call.start s)) (check-passed (validate s then checkArea (lengths w) s) (k .always)))
+    sym (ap (λ (c : Check). refusedBy c Answer.done) (check-passed (validate s then checkArea (lengths w) s) (k .always)))
 
 start-opens : {s : Setup} {w w' : Words} → Started s w w' Answer.done → Holds w' (historyStep (lengths w) History.empty (Call.start s))
 start-opens {s} {w} {w'} k =
     let passed = check-passed (validate s then checkArea (lengths w) s) (k .always) in
-    subst (λ (c : Check). Holds w' (leftUnless c History.empty (Call.start s))) (sym passed) (k .opened refl)
+    subst (λ (c : Check). Holds w' (leftBy c History.empty (History.fit (openedBook s)))) (sym passed) (k .opened refl)
 
 restore-opens : {bs : List ℕ} {w w' : Words} → Restored bs w w' Answer.done → Holds w' (historyStep (lengths w) History.empty (Call.restore bs))
 restore-opens {bs} {w} {w'} k = go (readRecord (lengths w) bs) (k .always) (k .restores)
   where
     go : (d : Reading) → Answer.done ≡ restoredAnswer d → Restores d w w' → Holds w' (restored History.empty d)
-    go (Reading.accepted s rs) e r = r .held
+    go (Reading.accepted b) e r = r .held
     go (Reading.refused c) e r = cc
     go (Reading.refusedAtEntry c) e r = cc
+
+-- ---- a read leaves the words, and the history with them
+
+pub read-did : {c : Call} {w : Words} {o : Answer} → isRead c ≡ true → ((h : History) → Holds w h → o ≡ historyAnswer (lengths w) h c) → Did c w w o
+read-did {c} {w} e said = record { sized = refl; holds = λ h k. subst (Holds w) (sym (read-stays (lengths w) h c e)) k; said = said }
 
 -- ---- every list, for a relation of one call
 
@@ -160,21 +160,21 @@ module _ {D : Call → Words → Words → Answer → Type 0} (known : Known D) 
       record { holds = r .holds; said = cc; sized = r .sized }
 
   -- what calls find
-  pub keeps : {w : Words} {s : Setup} {rs : List Reply} → Held w s rs → Sound (lengths w) s rs → Keeps D w s rs
-  keeps {w} {s} {rs} k sound =
-      let h = History.fit s rs in
+  pub keeps : {w : Words} {b : Book} → Held w b → Sound (lengths w) b → Keeps D w b
+  keeps {w} {b} k sound =
+      let h = History.fit b in
       let z = lengths w in
       record {
         sound = sound;
         entries = k .stands .entries;
         words = k .stands .words;
         log = k .stands .log;
-        question = λ {room} d l. known .did d .said h k ∙ question-answer z s rs room l;
-        report = λ {room} d e l. known .did d .said h k ∙ report-answer z s rs room e l;
-        withheld = λ {room} d e. known .did d .said h k ∙ withheld-answer z s rs room e;
+        question = λ {room} d l. known .did d .said h k ∙ question-answer z b room l;
+        report = λ {room} d e l. known .did d .said h k ∙ report-answer z b room e l;
+        withheld = λ {room} d e. known .did d .said h k ∙ withheld-answer z b room e;
         replies = λ d. known .did d .said h k;
-        entry = λ {k = i} {room} d l. known .did d .said h k ∙ entry-answer z s rs i room (sound .log) l;
-        save = λ {room} d l. known .did d .said h k ∙ save-answer z s rs room (sound .log) l;
+        entry = λ {k = i} {room} d l. known .did d .said h k ∙ entry-answer z b i room (sound .log) l;
+        save = λ {room} d l. known .did d .said h k ∙ save-answer z b room (sound .log) l;
       }
 
   keeps-none : {w : Words} → Holds w History.empty → KeepsNone D w
@@ -196,7 +196,7 @@ module _ {D : Call → Words → Words → Answer → Type 0} (known : Known D) 
         answers = a .said;
         fit = fitted w' h (a .holds);
         sized = a .sized;
-        keeps = λ s rs e. keeps (subst (Holds w') e (a .holds)) (subst (λ (x : Lengths). Sound x s rs) (sym (a .sized)) (history-sound z cs s rs e));
+        keeps = λ b e. keeps (subst (Holds w') e (a .holds)) (subst (λ (x : Lengths). Sound x b) (sym (a .sized)) (history-sound z cs b e));
         empty = λ e. keeps-none (subst (Holds w') e (a .holds));
         further = λ d. from d z h (a .sized) (a .holds) .said;
       }

@@ -15,7 +15,7 @@ use Rattle.definition.specs.Problem.{refuse, when, _then_}
 use Rattle.definition.specs.Machine as M
 use Rattle.definition.specs.Record.{plainRefusal}
 use Rattle.definition.specs.History as H
-use Rattle.definition.specs.History.{Call, outputShort}
+use Rattle.definition.specs.History.{Call, outputShort, refusedBy}
 use Rattle.area.specs.Area.{Vecs, view, X, Trial}
 use Rattle.problem.specs.Setups.{refusalOf}
 use Rattle.problem.specs.declared.Refusal.{Refusal}
@@ -28,7 +28,7 @@ use Rattle.driver.specs.Replies.{isHeld}
 use Rattle.lbfgsb.specs.Words.{Words, words}
 use Rattle.lbfgsb.specs.Bridge.{firstOf}
 use Rattle.lbfgsb.specs.Did.{Written, taken, Read, Counted}
-use Rattle.lbfgsb.specs.Table.{refusedBy, questionOf, questionAnswer, reportAnswer, repliesAnswer, frontEntry, entryIn, entryKept, shortLog, entryAnswer, recordIn, saveAnswer}
+use Rattle.lbfgsb.specs.Table.{questionOf, questionAnswer, reportAnswer, repliesAnswer, frontEntry, entryIn, entryKept, shortLog, entryAnswer, recordIn, saveAnswer}
 use Rattle.lookup.specs.Reading.{Begins}
 use Rattle.lookup.proofs.Entries.{entry-words, entry-room}
 use Rattle.lbfgsb.proofs.Firsts.{first-taken}
@@ -157,11 +157,11 @@ module _ (t : Fit) (a : List Float) (l : List ℕ) (out : List Float) where
       reported (ap H.Answer.refused e ∙ sym (off (isHeld t a) (reportFrom (length out) (t .shape .n) (machineOf t a)) (H.Answer.refused (plainRefusal 15)) h)) (untouched out)
 
   report-held : {o : H.Answer} (b : Bool) → isHeld t a ≡ true → M.unreported (phaseOf (t .phase)) ≡ b
-      → o ≡ refusedBy (when b (refuse 15 0 0) then outputShort (length out) (t .shape .n)) (H.Answer.reported (M.report (machineOf t a)))
+      → o ≡ refusedBy (when b (refuse 15 0 0) then outputShort (length out) (t .shape .n)) (H.Answer.reported (M.reportNow (machineOf t a)))
       → o ≡ reportAnswer (words t a l) (length out)
   report-held b h u e =
       e
-      ∙ ap (λ (b : Bool). refusedBy (when b (refuse 15 0 0) then outputShort (length out) (t .shape .n)) (H.Answer.reported (M.report (machineOf t a)))) (sym u)
+      ∙ ap (λ (b : Bool). refusedBy (when b (refuse 15 0 0) then outputShort (length out) (t .shape .n)) (H.Answer.reported (M.reportNow (machineOf t a)))) (sym u)
       ∙ sym (on (isHeld t a) (reportFrom (length out) (t .shape .n) (machineOf t a)) (H.Answer.refused (plainRefusal 15)) h)
 
   pub report-none : (c : Refusal) → isHeld t a ≡ true → M.unreported (phaseOf (t .phase)) ≡ true → refusalOf c ≡ plainRefusal 15 → Reported (H.Answer.refused (refusalOf c)) out
@@ -170,10 +170,10 @@ module _ (t : Fit) (a : List Float) (l : List ℕ) (out : List Float) where
   pub report-short : (c : Refusal) → isHeld t a ≡ true → M.unreported (phaseOf (t .phase)) ≡ false → length out < t .shape .n
       → refusalOf c ≡ record { number = 19; first = t .shape .n; second = 0 } → Reported (H.Answer.refused (refusalOf c)) out
   report-short c h u s e =
-      reported (report-held false h u (ap H.Answer.refused e ∙ sym (short (length out) (t .shape .n) (H.Answer.reported (M.report (machineOf t a))) s))) (untouched out)
+      reported (report-held false h u (ap H.Answer.refused e ∙ sym (short (length out) (t .shape .n) (H.Answer.reported (M.reportNow (machineOf t a))) s))) (untouched out)
 
   pub report-put : (r : Outcome) (out′ : List Float) → isHeld t a ≡ true → M.unreported (phaseOf (t .phase)) ≡ false → t .shape .n ≤ length out
-      → ((v : Vecs) → reportOf r (v X) ≡ M.report (machine t v)) → out′ ≡ written (machineOf t a .held .x) out
+      → ((v : Vecs) → reportOf r (v X) ≡ M.reportNow (machine t v)) → out′ ≡ written (machineOf t a .held .x) out
       → Reported (H.Answer.reported (reportOf r (take (t .shape .n) out′))) out′
   report-put r out′ h u s e d =
       let n = t .shape .n in
@@ -185,7 +185,7 @@ module _ (t : Fit) (a : List Float) (l : List ℕ) (out : List Float) where
       (report-held false h u
       (ap (λ (x : List Float). H.Answer.reported (reportOf r x)) front
       ∙ ap H.Answer.reported (e (view a n))
-      ∙ sym (fits (length out) n (H.Answer.reported (M.report (machineOf t a))) s)))
+      ∙ sym (fits (length out) n (H.Answer.reported (M.reportNow (machineOf t a))) s)))
       (rw front rest)
 
 -- ---- how many replies
@@ -193,11 +193,11 @@ module _ (t : Fit) (a : List Float) (l : List ℕ) (out : List Float) where
 counted-by : (k : ℕ) (w : Words) → H.Answer.counted k ≡ repliesAnswer w → Counted k w
 counted-by k w e = record { said = λ h g. e ∙ replies-said w h g; always = e }
 
-pub counted-held : (t : Fit) (a : List Float) (l : List ℕ) → isHeld t a ≡ true → Counted (t .entries) (words t a l)
-counted-held t a l h = counted-by (t .entries) (words t a l) (sym (on (isHeld t a) (H.Answer.counted (t .entries)) (H.Answer.counted 0) h))
+pub counted-held : (t : Fit) (a : List Float) (l : List ℕ) → isHeld t a ≡ true → Counted (t .extra .entries) (words t a l)
+counted-held t a l h = counted-by (t .extra .entries) (words t a l) (sym (on (isHeld t a) (H.Answer.counted (t .extra .entries)) (H.Answer.counted 0) h))
 
 pub counted-unheld : (t : Fit) (a : List Float) (l : List ℕ) → isHeld t a ≡ false → Counted 0 (words t a l)
-counted-unheld t a l h = counted-by 0 (words t a l) (sym (off (isHeld t a) (H.Answer.counted (t .entries)) (H.Answer.counted 0) h))
+counted-unheld t a l h = counted-by 0 (words t a l) (sym (off (isHeld t a) (H.Answer.counted (t .extra .entries)) (H.Answer.counted 0) h))
 
 -- ---- an entry
 
@@ -212,40 +212,40 @@ module _ (t : Fit) (a : List Float) (l : List ℕ) (k : ℕ) (out : List ℕ) wh
   entry-unheld h =
       entered-by (sym (off (isHeld t a) (entryFrom (shortLog (words t a l)) (length out) (entryKept (words t a l) k)) (H.Answer.entered []) h)) (untouched out)
 
-  pub entry-cut : (c : Refusal) → isHeld t a ≡ true → length l < t .words → refusalOf c ≡ plainRefusal 12 → Entered (H.Answer.refused (refusalOf c)) out
+  pub entry-cut : (c : Refusal) → isHeld t a ≡ true → length l < t .extra .words → refusalOf c ≡ plainRefusal 12 → Entered (H.Answer.refused (refusalOf c)) out
   entry-cut c h s e =
       entered-by
       (ap H.Answer.refused e
-      ∙ sym (ap (λ (b : Bool). entryFrom (when b (refuse 12 0 0)) (length out) (entryKept (words t a l) k)) (lt-ltb (length l) (t .words) s))
+      ∙ sym (ap (λ (b : Bool). entryFrom (when b (refuse 12 0 0)) (length out) (entryKept (words t a l) k)) (lt-ltb (length l) (t .extra .words) s))
       ∙ sym (on (isHeld t a) (entryFrom (shortLog (words t a l)) (length out) (entryKept (words t a l) k)) (H.Answer.entered []) h))
       (untouched out)
 
   -- the log is long enough, and the entry's words are ws
-  entry-held : {o : H.Answer} (ws : List ℕ) → isHeld t a ≡ true → t .words ≤ length l → entryKept (words t a l) k ≡ ws
+  entry-held : {o : H.Answer} (ws : List ℕ) → isHeld t a ≡ true → t .extra .words ≤ length l → entryKept (words t a l) k ≡ ws
       → o ≡ refusedBy (outputShort (length out) (length ws)) (H.Answer.entered ws) → o ≡ entryAnswer (words t a l) k (length out)
   entry-held ws h r w e =
       e
-      ∙ ap₂ (λ (b : Bool) (ws : List ℕ). entryFrom (when b (refuse 12 0 0)) (length out) ws) (sym (le-ltb (length l) (t .words) r)) (sym w)
+      ∙ ap₂ (λ (b : Bool) (ws : List ℕ). entryFrom (when b (refuse 12 0 0)) (length out) ws) (sym (le-ltb (length l) (t .extra .words) r)) (sym w)
       ∙ sym (on (isHeld t a) (entryFrom (shortLog (words t a l)) (length out) (entryKept (words t a l) k)) (H.Answer.entered []) h)
 
-  pub entry-absent : isHeld t a ≡ true → t .words ≤ length l → t .entries ≤ k → Entered (H.Answer.entered []) out
+  pub entry-absent : isHeld t a ≡ true → t .extra .words ≤ length l → t .extra .entries ≤ k → Entered (H.Answer.entered []) out
   entry-absent h r s =
-      let none-kept : entryKept (words t a l) k ≡ [] = rw (le-ltb k (t .entries) s) in
+      let none-kept : entryKept (words t a l) k ≡ [] = rw (le-ltb k (t .extra .entries) s) in
       entered-by (entry-held [] h r none-kept (sym (fits (length out) 0 (H.Answer.entered []) (omega arith)))) (untouched out)
 
   -- the words from `at` on are those of entry k
-  entry-found : (at size : ℕ) → t .words ≤ length l → k < t .entries → Begins (t .shape .n) k (take (t .words) l) at
-      → size ≡ length (frontEntry (t .shape .n) (drop at (take (t .words) l))) → entryKept (words t a l) k ≡ take size (drop at l)
+  entry-found : (at size : ℕ) → t .extra .words ≤ length l → k < t .extra .entries → Begins (t .shape .n) k (take (t .extra .words) l) at
+      → size ≡ length (frontEntry (t .shape .n) (drop at (take (t .extra .words) l))) → entryKept (words t a l) k ≡ take size (drop at l)
   entry-found at size r s b e =
-      let kept : entryKept (words t a l) k ≡ entryIn (t .shape .n) k (take (t .words) l) = rw (lt-ltb k (t .entries) s) in
-      kept ∙ sym (entry-words (t .shape .n) k l (t .words) at size r b e)
+      let kept : entryKept (words t a l) k ≡ entryIn (t .shape .n) k (take (t .extra .words) l) = rw (lt-ltb k (t .extra .entries) s) in
+      kept ∙ sym (entry-words (t .shape .n) k l (t .extra .words) at size r b e)
 
-  found-long : (at size : ℕ) → t .words ≤ length l → Begins (t .shape .n) k (take (t .words) l) at
-      → size ≡ length (frontEntry (t .shape .n) (drop at (take (t .words) l))) → length (take size (drop at l)) ≡ size
-  found-long at size r b e = length-take-le size (drop at l) (omega (arith, entry-room (t .shape .n) k l (t .words) at size r b e, length-drop at l))
+  found-long : (at size : ℕ) → t .extra .words ≤ length l → Begins (t .shape .n) k (take (t .extra .words) l) at
+      → size ≡ length (frontEntry (t .shape .n) (drop at (take (t .extra .words) l))) → length (take size (drop at l)) ≡ size
+  found-long at size r b e = length-take-le size (drop at l) (omega (arith, entry-room (t .shape .n) k l (t .extra .words) at size r b e, length-drop at l))
 
-  pub entry-short : (c : Refusal) (at size : ℕ) → isHeld t a ≡ true → t .words ≤ length l → k < t .entries → Begins (t .shape .n) k (take (t .words) l) at
-      → size ≡ length (frontEntry (t .shape .n) (drop at (take (t .words) l))) → length out < size
+  pub entry-short : (c : Refusal) (at size : ℕ) → isHeld t a ≡ true → t .extra .words ≤ length l → k < t .extra .entries → Begins (t .shape .n) k (take (t .extra .words) l) at
+      → size ≡ length (frontEntry (t .shape .n) (drop at (take (t .extra .words) l))) → length out < size
       → refusalOf c ≡ record { number = 19; first = size; second = 0 } → Entered (H.Answer.refused (refusalOf c)) out
   entry-short c at size h r s b e z d =
       let long = found-long at size r b e in
@@ -256,8 +256,8 @@ module _ (t : Fit) (a : List Float) (l : List ℕ) (k : ℕ) (out : List ℕ) wh
       ∙ short (length out) size (H.Answer.entered (take size (drop at l))) z)))
       (untouched out)
 
-  pub entry-put : (at size : ℕ) (out′ : List ℕ) → isHeld t a ≡ true → t .words ≤ length l → k < t .entries → Begins (t .shape .n) k (take (t .words) l) at
-      → size ≡ length (frontEntry (t .shape .n) (drop at (take (t .words) l))) → size ≤ length out → out′ ≡ written (take size (drop at l)) out
+  pub entry-put : (at size : ℕ) (out′ : List ℕ) → isHeld t a ≡ true → t .extra .words ≤ length l → k < t .extra .entries → Begins (t .shape .n) k (take (t .extra .words) l) at
+      → size ≡ length (frontEntry (t .shape .n) (drop at (take (t .extra .words) l))) → size ≤ length out → out′ ≡ written (take size (drop at l)) out
       → Entered (H.Answer.entered (firstOf size out′)) out′
   entry-put at size out′ h r s b e z d =
       let v = take size (drop at l) in
@@ -284,36 +284,36 @@ module _ (t : Fit) (a : List Float) (l : List ℕ) (out : List ℕ) where
   pub save-unheld : isHeld t a ≡ false → Saved (H.Answer.saved []) out
   save-unheld h = saved-by (sym (off (isHeld t a) (saveFrom (shortLog (words t a l)) (length out) (length whole) whole) (H.Answer.saved []) h)) (untouched out)
 
-  save-held : {o : H.Answer} (b : Bool) → isHeld t a ≡ true → ltb (length l) (t .words) ≡ b → o ≡ saveFrom (when b (refuse 12 0 0)) (length out) (length whole) whole
+  save-held : {o : H.Answer} (b : Bool) → isHeld t a ≡ true → ltb (length l) (t .extra .words) ≡ b → o ≡ saveFrom (when b (refuse 12 0 0)) (length out) (length whole) whole
       → o ≡ saveAnswer (words t a l) (length out)
   save-held b h s e =
       e
       ∙ ap (λ (b : Bool). saveFrom (when b (refuse 12 0 0)) (length out) (length whole) whole) (sym s)
       ∙ sym (on (isHeld t a) (saveFrom (shortLog (words t a l)) (length out) (length whole) whole) (H.Answer.saved []) h)
 
-  pub save-cut : (c : Refusal) → isHeld t a ≡ true → length l < t .words → refusalOf c ≡ plainRefusal 12 → Saved (H.Answer.refused (refusalOf c)) out
-  save-cut c h s e = saved-by (save-held true h (lt-ltb (length l) (t .words) s) (ap H.Answer.refused e)) (untouched out)
+  pub save-cut : (c : Refusal) → isHeld t a ≡ true → length l < t .extra .words → refusalOf c ≡ plainRefusal 12 → Saved (H.Answer.refused (refusalOf c)) out
+  save-cut c h s e = saved-by (save-held true h (lt-ltb (length l) (t .extra .words) s) (ap H.Answer.refused e)) (untouched out)
 
-  pub save-short : (c : Refusal) (size : ℕ) → isHeld t a ≡ true → t .words ≤ length l → size ≡ setupSize (t .options .bounded) (t .shape .n)
-      → length out < 8 * (size + t .words + 4) → refusalOf c ≡ record { number = 19; first = 8 * (size + t .words + 4); second = 0 }
+  pub save-short : (c : Refusal) (size : ℕ) → isHeld t a ≡ true → t .extra .words ≤ length l → size ≡ setupSize (t .options .bounded) (t .shape .n)
+      → length out < 8 * (size + t .extra .words + 4) → refusalOf c ≡ record { number = 19; first = 8 * (size + t .extra .words + 4); second = 0 }
       → Saved (H.Answer.refused (refusalOf c)) out
   save-short c size h r n s e =
-      let long : 8 * (size + t .words + 4) ≡ length whole = ap (λ (k : ℕ). 8 * (k + t .words + 4)) n ∙ sym (record-long t a l h r) in
+      let long : 8 * (size + t .extra .words + 4) ≡ length whole = ap (λ (k : ℕ). 8 * (k + t .extra .words + 4)) n ∙ sym (record-long t a l h r) in
       saved-by
-      (save-held false h (le-ltb (length l) (t .words) r)
+      (save-held false h (le-ltb (length l) (t .extra .words) r)
       (ap H.Answer.refused e
-      ∙ sym (short (length out) (8 * (size + t .words + 4)) (H.Answer.saved whole) s)
+      ∙ sym (short (length out) (8 * (size + t .extra .words + 4)) (H.Answer.saved whole) s)
       ∙ ap (λ (j : ℕ). refusedBy (outputShort (length out) j) (H.Answer.saved whole)) long))
       (untouched out)
 
-  pub save-put : (size : ℕ) (out′ : List ℕ) → isHeld t a ≡ true → t .words ≤ length l → size ≡ setupSize (t .options .bounded) (t .shape .n)
-      → 8 * (size + t .words + 4) ≤ length out → out′ ≡ written (recordIn (words t a l)) out → Saved (H.Answer.saved (firstOf (8 * (size + t .words + 4)) out′)) out′
+  pub save-put : (size : ℕ) (out′ : List ℕ) → isHeld t a ≡ true → t .extra .words ≤ length l → size ≡ setupSize (t .options .bounded) (t .shape .n)
+      → 8 * (size + t .extra .words + 4) ≤ length out → out′ ≡ written (recordIn (words t a l)) out → Saved (H.Answer.saved (firstOf (8 * (size + t .extra .words + 4)) out′)) out′
   save-put size out′ h r n s d =
-      let needed = 8 * (size + t .words + 4) in
-      let long : length whole ≡ needed = record-long t a l h r ∙ ap (λ (k : ℕ). 8 * (k + t .words + 4)) (sym n) in
+      let needed = 8 * (size + t .extra .words + 4) in
+      let long : length whole ≡ needed = record-long t a l h r ∙ ap (λ (k : ℕ). 8 * (k + t .extra .words + 4)) (sym n) in
       let front : firstOf needed out′ ≡ whole = put-first whole out out′ needed long s d in
       let rest : Written (length whole) out out′ = put-rest whole out out′ (omega (arith, long)) d in
       saved-by
-      (save-held false h (le-ltb (length l) (t .words) r)
+      (save-held false h (le-ltb (length l) (t .extra .words) r)
       (ap H.Answer.saved front ∙ sym (fits (length out) (length whole) (H.Answer.saved whole) (omega (arith, long)))))
       (rw front rest)

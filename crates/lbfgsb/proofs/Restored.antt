@@ -9,6 +9,7 @@ use lib.Seq.{take-at}
 use lib.Ieee.{Float}
 use Rattle.definition.specs.Number.{zero64}
 use Rattle.definition.specs.Log.{logWords}
+use Rattle.definition.specs.Book.{book}
 use Rattle.definition.specs.Record.{Reading, readRecord, readingOf, plainRefusal, wordsOf}
 use Rattle.definition.specs.History as H
 use Rattle.definition.specs.History.{History, restored, restoredAnswer}
@@ -38,7 +39,7 @@ use Rattle.rebuild.proofs.Reread.{refused-read, replayed-all, replayed-read}
 -- ---- what the reading says of every history
 
 restored-holds : (w w' : Words) (d : Reading) → Restores d w w' → (h : History) → Holds w h → Holds w' (restored h d)
-restored-holds w w' (Reading.accepted s rs) r h k = r .held
+restored-holds w w' (Reading.accepted b) r h k = r .held
 restored-holds w w' (Reading.refused c) r h k = subst (λ (x : Words). Holds x h) (sym r) k
 restored-holds w w' (Reading.refusedAtEntry c) r h k = subst (λ (x : Words). Holds x History.empty) (sym r) (zeroed-unheld (w .state) (length (w .area)))
 
@@ -72,17 +73,17 @@ module _ (bs : List ℕ) (g : Fit) (a : List Float) (l : List ℕ) (o : Options)
   abbrev limit : ℕ
   limit = f .words - f .setup
 
-  module _ (t : Fit) (b : List Float) (k : Built (setup bs (length a) o f h) (entries bs (length a) o f h) limit (length l) (length a) t b) where
+  module _ (t : Fit) (b : List Float) (k : Built (setup bs (length a) o f h) (entries bs (length a) o f h) limit (length l) a t b) where
     replayed : ReplayedTo (setup bs (length a) o f h) (entries bs (length a) o f h) (length l) t b
     replayed = k .is (inl (h .accepted))
 
-    all-words : t .words ≡ length (entries bs (length a) o f h)
+    all-words : t .extra .words ≡ length (entries bs (length a) o f h)
     all-words =
         ⊎-elim (λ e. e)
         (λ e. omega (arith, e, k .words, replayed .entries, replayed .words, entries-most (replayed .replies), entries-long bs (length a) o f h)) (k .stopped)
 
     abbrev copy : List ℕ
-    copy = wordsOf (t .words) (drop (f .at + 8 * f .setup) bs)
+    copy = wordsOf (t .extra .words) (drop (f .at + 8 * f .setup) bs)
 
     copied : copy ≡ entries bs (length a) o f h
     copied = ap (λ (i : ℕ). wordsOf i (drop (f .at + 8 * f .setup) bs)) (all-words ∙ entries-long bs (length a) o f h)
@@ -93,8 +94,8 @@ module _ (bs : List ℕ) (g : Fit) (a : List Float) (l : List ℕ) (o : Options)
     abbrev now-log : List ℕ
     now-log = headed copy l
 
-    copied-long : length copy ≡ t .words
-    copied-long = wordsOf-length (t .words) (drop (f .at + 8 * f .setup) bs)
+    copied-long : length copy ≡ t .extra .words
+    copied-long = wordsOf-length (t .extra .words) (drop (f .at + 8 * f .setup) bs)
 
     headed-long : length now-log ≡ length l
     headed-long =
@@ -102,7 +103,7 @@ module _ (bs : List ℕ) (g : Fit) (a : List Float) (l : List ℕ) (o : Options)
 
     restore-kept : Restored bs (words g a l) (words t b now-log) H.Answer.done
     restore-kept =
-        restores bs (words g a l) (words t b now-log) H.Answer.done (Reading.accepted (setup bs (length a) o f h) (replayed .replies))
+        restores bs (words g a l) (words t b now-log) H.Answer.done (Reading.accepted (book (setup bs (length a) o f h) (replayed .replies)))
         (reading bs (length a) o f h (length l) ∙ ap (readingOf (setup bs (length a) o f h)) (replayed-read replayed all-words (k .within)))
         (ap₂ (λ (x y : ℕ). record { area = x; log = y }) (k .long) headed-long)
         refl
@@ -120,7 +121,7 @@ module _ (bs : List ℕ) (g : Fit) (a : List Float) (l : List ℕ) (o : Options)
                 entries = replayed .entries;
                 words = replayed .words;
               })
-              (k .mark) (omega (arith, headed-long, k .within)) (take-at copy (drop (length copy) l) (t .words) copied-long ∙ logged);
+              (k .mark) (omega (arith, headed-long, k .within)) (take-at copy (drop (length copy) l) (t .extra .words) copied-long ∙ logged);
           log = ap (λ (ws : List ℕ). headed ws l) logged;
         })
 
@@ -138,12 +139,12 @@ module _ (bs : List ℕ) (g : Fit) (a : List Float) (l : List ℕ) (o : Options)
 
   -- ---- by what is built
 
-  built-restored : (q : Replayed) (b : List Float) (m : List ℕ) → Builds (setup bs (length a) o f h) (entries bs (length a) o f h) limit (length l) (length a) q b
+  built-restored : (q : Replayed) (b : List Float) (m : List ℕ) → Builds (setup bs (length a) o f h) (entries bs (length a) o f h) limit (length l) a q b
       → Reloads q bs f l m → Restored bs (words g a l) (words (nextBy g q) b m) (keptBy q)
   built-restored (R.Done t) b m k z = subst (λ (x : List ℕ). Restored bs (words g a l) (words t b x) H.Answer.done) (sym z) (restore-kept t b k)
   built-restored (R.Refused i) b m k z = subst (λ (x : List ℕ). Restored bs (words g a l) (words g b x) (H.Answer.refused (plainRefusal i))) (sym z) (restore-zeroed i b k)
 
   pub answered-restored : (q : Replayed) (p : Answer) (b : List Float) (m : List ℕ) → ((t : Fit) → next t p ≡ nextBy t q) × (kept p ≡ keptBy q)
-      → Builds (setup bs (length a) o f h) (entries bs (length a) o f h) limit (length l) (length a) q b × Reloads q bs f l m
+      → Builds (setup bs (length a) o f h) (entries bs (length a) o f h) limit (length l) a q b × Reloads q bs f l m
       → Restored bs (words g a l) (words (next g p) b m) (kept p)
   answered-restored q p b m e k = rw (e .0 g, e .1) (built-restored q b m (k .0) (k .1))

@@ -19,8 +19,7 @@ use contract.Lifetimes.{Lfts}
 use denote.Ref.{now}
 use denote.Triple.Clauses.{AtExit}
 use borrow.Fn.Kinds.{Dens, endedOf, resT}
-use Rattle.definition.specs.Problem.{Setup}
-use Rattle.definition.specs.Machine.{Reply}
+use Rattle.definition.specs.Book.{Book}
 use Rattle.definition.specs.Record.{Lengths}
 use Rattle.definition.specs.Sound.{Sound}
 use Rattle.definition.specs.History.{Call, Answer, History}
@@ -30,7 +29,7 @@ use Rattle.lbfgsb.specs.Bridge.{replied, next, kept, asked, told, entere
 use Rattle.lbfgsb.specs.Did.{Did, Opening}
 use Rattle.lbfgsb.specs.Chain.{Chain, Blank, Opens, Allowed, Keeps, After, Demand}
 use Rattle.lbfgsb.proofs.Lists as lists
-use Rattle.lbfgsb.proofs.Lists.{Known}
+use Rattle.lbfgsb.proofs.Lists.{Known, read-did}
 use Rattle.lbfgsb.proofs.start.Kinds as start-kinds
 use Rattle.lbfgsb.proofs.start.Reads as start-reads
 use Rattle.lbfgsb.proofs.start.Statement as start-says
@@ -145,11 +144,11 @@ did (by-start κs a z e log l) = l log .did
 did (by-restore κs a z e l) = l .did
 did (by-reply κs a z e l) = l .did
 did (by-take-back κs a z e l) = l .did
-did (by-question κs a z e log l) = record { sized = refl; holds = λ h k. k; said = l log .said }
-did (by-report κs a z e log l) = record { sized = refl; holds = λ h k. k; said = l log .said }
-did (by-replies κs a z e log l) = record { sized = refl; holds = λ h k. k; said = l log .said }
-did (by-entry κs a z e l) = record { sized = refl; holds = λ h k. k; said = l .said }
-did (by-save κs a z e l) = record { sized = refl; holds = λ h k. k; said = l .said }
+did (by-question κs a z e log l) = read-did refl (l log .said)
+did (by-report κs a z e log l) = read-did refl (l log .said)
+did (by-replies κs a z e log l) = read-did refl (l log .said)
+did (by-entry κs a z e l) = read-did refl (l .said)
+did (by-save κs a z e l) = read-did refl (l .said)
 
 -- what an opening or a reading in tells of any words
 pub opening : {c : Call} {w w' : Words} {o : Answer} → Called c w w' o → Opening c w w' o
@@ -172,7 +171,7 @@ pub from : {w w' : Words} {cs : List Call} {os : List Answer} → Chain Called w
 from = lists.from known
 
 -- what calls find in words that hold a fit
-pub keeps : {w : Words} {s : Setup} {rs : List Reply} → Held w s rs → Sound (lengths w) s rs → Keeps Called w s rs
+pub keeps : {w : Words} {b : Book} → Held w b → Sound (lengths w) b → Keeps Called w b
 keeps = lists.keeps known
 
 pub after : {w w' : Words} {cs : List Call} {os : List Answer} → Allowed w cs os → Chain Called w cs os w' → After (lengths w) History.empty cs os w'

@@ -6,8 +6,7 @@ use mathlib.Core.List.{List}
 use native.Mathlib.Omega.{arith}
 use lib.ListN.{length, take}
 use lib.Ieee.{Float}
-use Rattle.definition.specs.Problem.{Setup}
-use Rattle.definition.specs.Machine.{Reply}
+use Rattle.definition.specs.Book.{Book}
 use Rattle.definition.specs.Record.{Lengths}
 use Rattle.definition.specs.History.{History}
 use Rattle.area.specs.Area.{Vecs, view, X0, Lower, Upper}
@@ -30,10 +29,10 @@ unfolding pairsOf
 pairs-in-use h v w k = tab-same (h .pairs) (pairAt h w) (pairAt h v) (λ j l. sym (k j l))
 
 -- one state t with two areas and two logs
-module _ (t : Fit) (a b : List Float) (l m : List ℕ) {s : Setup} {rs : List Reply} (h : Stands (words t a l) s rs)
+module _ (t : Fit) (a b : List Float) (l m : List ℕ) {k : Book} (h : Stands (words t a l) k)
     (area : Same (t .shape) a b) (mark : marked (t .shape) b ≡ true) (long : length a ≡ length b) (logged : length l ≡ length m)
-    (log : take (t .words) l ≡ take (t .words) m) where
-  stands-again : Stands (words t b m) s rs
+    (log : take (t .extra .words) l ≡ take (t .extra .words) m) where
+  stands-again : Stands (words t b m) k
   stands-again =
       let va = view a (t .shape .n) in
       let vb = view b (t .shape .n) in
@@ -49,7 +48,7 @@ module _ (t : Fit) (a b : List Float) (l m : List ℕ) {s : Setup} {rs : List Re
         settled = h .settled;
         entries = h .entries;
         words = h .words;
-        room = subst (λ (k : ℕ). t .words ≤ k) logged (h .room);
+        room = subst (λ (k : ℕ). t .extra .words ≤ k) logged (h .room);
         log = sym log ∙ h .log;
       }
 
@@ -59,18 +58,18 @@ agree-at {w} {v} t e f a =
     subst (λ (x : Fit). Agree (words x (w .area) (w .log)) (words t (v .area) (v .log))) e
     (subst (λ (x : Fit). Agree w (words x (v .area) (v .log))) f a)
 
-scratch-stands : {w v : Words} {s : Setup} {rs : List Reply} → Stands w s rs → Agree w v → Stands v s rs
-scratch-stands {w} {v} {s} {rs} h a =
+scratch-stands : {w v : Words} {b : Book} → Stands w b → Agree w v → Stands v b
+scratch-stands {w} {v} {b} h a =
     let t = w .state in
     let k = agree-at {w = w} {v = v} t refl (sym (a .state)) a in
     let area = ap (λ (x : Lengths). x .area) (a .sized) in
     let log = ap (λ (x : Lengths). x .log) (a .sized) in
-    subst (λ (x : Fit). Stands (words x (v .area) (v .log)) s rs) (a .state)
+    subst (λ (x : Fit). Stands (words x (v .area) (v .log)) b) (a .state)
     (stands-again t (w .area) (v .area) (w .log) (v .log) h (k .area) (k .mark .1) area log (k .log))
 
-pub scratch-unread : {w v : Words} {s : Setup} {rs : List Reply} → Held w s rs → Agree w v → Held v s rs
+pub scratch-unread : {w v : Words} {b : Book} → Held w b → Agree w v → Held v b
 scratch-unread h a = record { accepted = h .accepted; stands = scratch-stands (h .stands) a }
 
 -- so they are answered alike for ever
-pub scratch-alike : {w v : Words} {s : Setup} {rs : List Reply} → Held w s rs → Agree w v → Alike Called w v
-scratch-alike {w} {v} {s} {rs} h a = alike w v (History.fit s rs) h (scratch-unread h a) tt (a .sized)
+pub scratch-alike : {w v : Words} {b : Book} → Held w b → Agree w v → Alike Called w v
+scratch-alike {w} {v} {b} h a = alike w v (History.fit b) h (scratch-unread h a) tt (a .sized)

@@ -1,7 +1,7 @@
 -- Demands 1 and 3, in document 01's words: lists of calls, where they may start, and what is claimed of each.
 -- `D c w w' o` is "the call c at the words w left w' and answered o": proofs/Trace.antt puts the contracts of the exported functions there,
 -- and the crate `script` what is known of each of its steps (`Did.Stepped`).
--- The history is document 01's book (`historyAfter`, from the empty one), its replies newest first; `Ordered` has them in the order given.
+-- The history is document 01's book (`historyAfter`, from the empty one), its replies newest first; `inOrder` has them in the order given.
 use Prim.Native.Nat.{ℕ, _+_, _-_, _*_, _≤_, _<_}
 use mathlib.Core.Path.{_≡_}
 use mathlib.Core.Bool.{Bool, true, false, cond}
@@ -17,16 +17,18 @@ use Rattle.definition.specs.Number.{toFloat, zero64}
 use Rattle.definition.specs.Vector.{word}
 use Rattle.definition.specs.Problem.{Setup, Refusal, dimension, orElse, projectedStart, termsOf, limitsOf}
 use Rattle.definition.specs.Compact.{wrap}
-use Rattle.definition.specs.Machine.{Reply, Question, Report, question as questionOf, report as reportOf, unreported}
+use Rattle.definition.specs.Machine.{Reply, Question, Report, isValue, isNotice, isFailure, question as questionOf, reportNow as reportOf, unreported}
 use Rattle.definition.specs.Driver.{answer, run}
-use Rattle.definition.specs.Log.{entryWords, logWords}
+use Rattle.definition.specs.Log.{entryWords}
+use Rattle.definition.specs.Book.{Book, book, openedBook, runOf, logOf, entryAt}
 use Rattle.definition.specs.Record.{Lengths, Reading, plainRefusal, readRecord, recordWords, recordBytes}
-use Rattle.definition.specs.Replies.{isValue, isNotice, isFailure, countOf, openOf, firstValue}
+use Rattle.definition.specs.Replies.{countOf, openOf, firstValue}
 use Rattle.definition.specs.Facts.{gradientsCompleted}
 use Rattle.definition.specs.Points.{lastTaken, OwnOf, InBox}
 use Rattle.definition.specs.Sound.{Sound, refusedAtEntry}
-use Rattle.definition.specs.History.{Call, Answer, History, refusalsOf, among, entryAt, historyAfter, historyAnswers}
-use Rattle.definition.specs.Ordered.{Ordered, logInOrder, orderedAfter, orderedAnswers}
+use Rattle.definition.specs.History.{Call, Answer, History, refusalsOf, among, historyAfter, historyAnswers}
+use Rattle.definition.specs.Ordered.{inOrder, runInOrder, logInOrder, InOrder}
+use Rattle.area.specs.Area.{placeSlot, firstColumn, vectors}
 use Rattle.compact.specs.declared.Shape.{Shape}
 use Rattle.driver.specs.Replies.{isHeld, markAt, marked}
 use Rattle.lbfgsb.specs.Words.{Words, lengths, setupOf, machineIn, logIn, Stands, Holds}
@@ -59,29 +61,30 @@ FitIn w = isHeld (w .state) (w .area) ≡ true
 
 abbrev pub HasFit : History → Type 0
 HasFit History.empty = ⊥
-HasFit (History.fit s rs) = Unit {0}
+HasFit (History.fit b) = Unit {0}
 
 -- ---- what words hold
 
--- What calls find in words that keep the fit of s and rs. An output that is too short is refused by 19: the history's answers say when.
-pub record Keeps (D : Call → Words → Words → Answer → Type 0) (w : Words) (s : Setup) (rs : List Reply) : Type 0 where
+-- What calls find in words that keep the fit of the book b. An output that is too short is refused by 19: the history's answers say when.
+pub record Keeps (D : Call → Words → Words → Answer → Type 0) (w : Words) (b : Book) : Type 0 where
   -- the setup is accepted, each reply was due when it was given, area and log are long enough
-  pub sound : Sound (lengths w) s rs
+  pub sound : Sound (lengths w) b
   -- the log holds the replies kept: so many entries, of so many words, and up to the last of them the log is theirs
-  pub entries : w .state .entries ≡ length rs
-  pub words : w .state .words ≡ length (logWords rs)
-  pub log : take (w .state .words) (w .log) ≡ logWords rs
+  pub entries : w .state .extra .entries ≡ length (b .replies)
+  pub words : w .state .extra .words ≡ length (logOf b)
+  pub log : take (w .state .extra .words) (w .log) ≡ logOf b
   -- the open question, or none, is the definition's
-  pub question : {room : ℕ} {o : Answer} {v : Words} → D (Call.question room) w v o → dimension s ≤ room → o ≡ Answer.asked (questionOf (run s rs))
+  pub question : {room : ℕ} {o : Answer} {v : Words} → D (Call.question room) w v o → dimension (b .setup) ≤ room → o ≡ Answer.asked (questionOf (runOf b))
   -- so are the seven fields of a report; 15 before the first value reply, and after a failure
-  pub report : {room : ℕ} {o : Answer} {v : Words} → D (Call.report room) w v o → unreported (run s rs .phase) ≡ false → dimension s ≤ room
-      → o ≡ Answer.reported (reportOf (run s rs))
-  pub withheld : {room : ℕ} {o : Answer} {v : Words} → D (Call.report room) w v o → unreported (run s rs .phase) ≡ true → o ≡ Answer.refused (plainRefusal 15)
+  pub report : {room : ℕ} {o : Answer} {v : Words} → D (Call.report room) w v o → unreported (runOf b .phase) ≡ false → dimension (b .setup) ≤ room
+      → o ≡ Answer.reported (reportOf (runOf b))
+  pub withheld : {room : ℕ} {o : Answer} {v : Words} → D (Call.report room) w v o → unreported (runOf b .phase) ≡ true → o ≡ Answer.refused (plainRefusal 15)
   -- the replies kept, and entry k of the log, from 0 the oldest
-  pub replies : {o : Answer} {v : Words} → D Call.replies w v o → o ≡ Answer.counted (length rs)
-  pub entry : {k room : ℕ} {o : Answer} {v : Words} → D (Call.entry k room) w v o → length (entryAt rs k) ≤ room → o ≡ Answer.entered (entryAt rs k)
+  pub replies : {o : Answer} {v : Words} → D Call.replies w v o → o ≡ Answer.counted (length (b .replies))
+  pub entry : {k room : ℕ} {o : Answer} {v : Words} → D (Call.entry k room) w v o → length (entryAt (b .replies) k) ≤ room
+      → o ≡ Answer.entered (entryAt (b .replies) k)
   -- a saving writes the record of setup and log
-  pub save : {room : ℕ} {o : Answer} {v : Words} → D (Call.save room) w v o → 8 * length (recordWords s rs) ≤ room → o ≡ Answer.saved (recordBytes s rs)
+  pub save : {room : ℕ} {o : Answer} {v : Words} → D (Call.save room) w v o → 8 * length (recordWords b) ≤ room → o ≡ Answer.saved (recordBytes b)
 
 -- What calls find in words with no fit: there is no open question, and a saving writes nothing.
 pub record KeepsNone (D : Call → Words → Words → Answer → Type 0) (w : Words) : Type 0 where
@@ -113,22 +116,18 @@ pub record Demand (D : Call → Words → Words → Answer → Type 0) (w : Word
   pub fit : FitIn w' ↔ HasFit (historyAfter (lengths w) History.empty cs)
   pub sized : lengths w' ≡ lengths w
   -- with a fit held, and with none
-  pub keeps : (s : Setup) (rs : List Reply) → historyAfter (lengths w) History.empty cs ≡ History.fit s rs → Keeps D w' s rs
+  pub keeps : (b : Book) → historyAfter (lengths w) History.empty cs ≡ History.fit b → Keeps D w' b
   pub empty : historyAfter (lengths w) History.empty cs ≡ History.empty → KeepsNone D w'
   -- whatever list is called next is answered from the history
   pub further : {ds : List Call} {ps : List Answer} {v : Words} → Chain D w' ds ps v → ps ≡ historyAnswers (lengths w) (historyAfter (lengths w) History.empty cs) ds
 
-abbrev pub HasOrdered : Ordered → Type 0
-HasOrdered Ordered.empty = ⊥
-HasOrdered (Ordered.fit s qs) = Unit {0}
-
--- The same with the replies in the order in which they were given: an accepted reply is added at the end, a taking back of j strikes the last j.
--- Questions, reports, entries and savings are among the answers.
-pub record InOrder (w : Words) (cs : List Call) (os : List Answer) (w' : Words) : Type 0 where
-  pub answers : os ≡ orderedAnswers (lengths w) Ordered.empty cs
-  pub fit : FitIn w' ↔ HasOrdered (orderedAfter (lengths w) Ordered.empty cs)
-  pub entries : (s : Setup) (qs : List Reply) → orderedAfter (lengths w) Ordered.empty cs ≡ Ordered.fit s qs → w' .state .entries ≡ length qs
-  pub log : (s : Setup) (qs : List Reply) → orderedAfter (lengths w) Ordered.empty cs ≡ Ordered.fit s qs → take (w' .state .words) (w' .log) ≡ logInOrder qs
+-- What the words w hold of the book b, its replies in the order in which they were given. That an accepted reply is added at the end of them, that a
+-- taking back of j strikes the last j, and what an entry is in that order: `InOrder b` of the definition, a part of it here.
+pub record HoldsInOrder (w : Words) (b : Book) : Type 0 where
+  pub book : InOrder b
+  pub entries : w .state .extra .entries ≡ length (inOrder b)
+  pub machine : machineIn w ≡ runInOrder (b .setup) (inOrder b)
+  pub log : take (w .state .extra .words) (w .log) ≡ logInOrder (inOrder b)
 
 -- ---- any words at all (demand 1)
 
@@ -136,23 +135,23 @@ pub record InOrder (w : Words) (cs : List Call) (os : List Answer) (w' : Words) 
 pub record Advanced (r : Reply) (w w' : Words) : Type 0 where
   pub machine : machineIn w' ≡ answer (machineIn w) r
   pub setup : setupOf w' ≡ setupOf w
-  pub replies : w' .state .entries ≡ w .state .entries + 1
+  pub replies : w' .state .extra .entries ≡ w .state .extra .entries + 1
   pub log : logIn w' ≡ logIn w ++ entryWords r
 
 -- the setup and the replies of a record that is accepted
 abbrev pub ReadIn : Reading → Words → Type 0
-ReadIn (Reading.accepted s rs) w' = Stands w' s rs
+ReadIn (Reading.accepted b) w' = Stands w' b
 ReadIn (Reading.refused c) w' = ⊥
 ReadIn (Reading.refusedAtEntry c) w' = ⊥
 
 -- the setup held, and the replies that are to stay
 abbrev pub Stay : Option (List Reply) → Words → Words → Type 0
 Stay none w w' = ⊥
-Stay (some rs) w w' = Stands w' (setupOf w) rs
+Stay (some rs) w w' = Stands w' (book (setupOf w) rs)
 
 -- what a call that is not refused leaves: the definition's machine of the setup and the replies kept, read off state, area and log; a read leaves every word
 abbrev pub Result : Call → Words → Words → Type 0
-Result (Call.start s) w w' = Stands w' s []
+Result (Call.start s) w w' = Stands w' (openedBook s)
 Result (Call.restore bs) w w' = ReadIn (readRecord (lengths w) bs) w'
 Result (Call.reply r) w w' = Advanced r w w'
 Result (Call.takeBack j) w w' = cond (isHeld (w .state) (w .area)) (Stay (repliesLeft j w) w w') (w' ≡ w)
@@ -164,12 +163,12 @@ Result (Call.save room) w w' = w' ≡ w
 
 -- the last words of the log's entries are zeroed; those past them are as they were
 pub record Struck (w w' : Words) : Type 0 where
-  pub fewer : w' .state .words ≤ w .state .words
-  pub zeroed : take (w .state .words - w' .state .words) (drop (w' .state .words) (w' .log)) ≡ replicate (w .state .words - w' .state .words) 0
-  pub past : drop (w .state .words) (w' .log) ≡ drop (w .state .words) (w .log)
+  pub fewer : w' .state .extra .words ≤ w .state .extra .words
+  pub zeroed : take (w .state .extra .words - w' .state .extra .words) (drop (w' .state .extra .words) (w' .log)) ≡ replicate (w .state .extra .words - w' .state .extra .words) 0
+  pub past : drop (w .state .extra .words) (w' .log) ≡ drop (w .state .extra .words) (w .log)
 
 abbrev pub Past : Words → Words → Type 0
-Past w w' = drop (w' .state .words) (w' .log) ≡ drop (w' .state .words) (w .log)
+Past w w' = drop (w' .state .extra .words) (w' .log) ≡ drop (w' .state .extra .words) (w .log)
 
 -- After each call the log's words past its last entry are as they were, those that a taking back zeroes aside. An opening writes none.
 abbrev pub LogPast : Call → Words → Words → Type 0
@@ -281,16 +280,16 @@ pub record Asks (s : Setup) (q : Question) : Type 0 where
 
 -- ---- lists alike
 
--- Scratch are the area's vectors 8 to 15 (Velocity to Step), the two of a place of the ring that no pair is in, the columns of W, and the words behind the
--- mark.
+-- Scratch are the area's vectors 8 to 15 (four that no call reads before it writes them, and the four free ones), the two of a place of the ring that no pair
+-- is in, the columns of W, and the words behind the mark.
 -- `Unused h p`: of the pairs, oldest first, none is in place p.
 abbrev pub Unused : Shape → ℕ → Type 0
 Unused h p = (k : ℕ) → k < h .pairs → wrap (h .m) (h .oldest + k) ≡ p → ⊥
 
 pub data ScratchVector (h : Shape) (q : ℕ) : Type 0 where
   between : 8 ≤ q → q < 16 → ScratchVector h q
-  place : (p : ℕ) → p < h .m → Unused h p → (q ≡ 16 + 2 * p) ⊎ (q ≡ 16 + 2 * p + 1) → ScratchVector h q
-  column : 16 + 2 * h .m ≤ q → q < 16 + 4 * h .m → ScratchVector h q
+  place : (p : ℕ) → p < h .m → Unused h p → (q ≡ placeSlot p) ⊎ (q ≡ placeSlot p + 1) → ScratchVector h q
+  column : firstColumn (h .m) ≤ q → q < vectors (h .m) → ScratchVector h q
 
 -- word i of the area
 pub data Scratch (h : Shape) (i : ℕ) : Type 0 where
@@ -303,7 +302,7 @@ pub record Agree (w v : Words) : Type 0 where
   pub area : (i : ℕ) → i < length (w .area) → (i ≡ markAt (w .state .shape) → ⊥) → Scratch (w .state .shape) i ⊎ (word (w .area) i ≡ word (v .area) i)
   -- the mark is 1 in both (Areas.mark-same: the same word, in areas of binary64)
   pub mark : (marked (w .state .shape) (w .area) ≡ true) × (marked (v .state .shape) (v .area) ≡ true)
-  pub log : take (w .state .words) (w .log) ≡ take (v .state .words) (v .log)
+  pub log : take (w .state .extra .words) (w .log) ≡ take (v .state .extra .words) (v .log)
   pub sized : lengths w ≡ lengths v
 
 -- They agree, every list of further calls is answered alike at both, outputs included, and leaves words that agree again while a fit is held.

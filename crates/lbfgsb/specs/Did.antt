@@ -3,14 +3,15 @@
 use Prim.Native.Nat.{ℕ, _+_, _-_, _≤_}
 use mathlib.Core.Path.{_≡_}
 use mathlib.Core.Bool.{cond}
-use mathlib.Core.List.{List, [], _++_}
+use mathlib.Core.List.{List, _++_}
 use mathlib.Core.Option.{Option, none, some}
 use lib.ListN.{length, take, drop, replicate}
 use Rattle.definition.specs.Problem as P
 use Rattle.definition.specs.Problem.{Refusal, Check}
 use Rattle.definition.specs.Machine as M
 use Rattle.definition.specs.Driver.{answer}
-use Rattle.definition.specs.Log.{entryWords, logWords}
+use Rattle.definition.specs.Log.{entryWords}
+use Rattle.definition.specs.Book.{Book, book, openedBook, logOf}
 use Rattle.definition.specs.Record.{Reading, readRecord}
 use Rattle.definition.specs.History as H
 use Rattle.definition.specs.History.{Call, History, historyStep, historyAnswer}
@@ -43,16 +44,16 @@ pub record Started (s : P.Setup) (w w' : Words) (o : H.Answer) : Type 0 where
   pub did : Did (Call.start s) w w' o
   pub always : o ≡ answerAt (Call.start s) w
   pub refuses : Refuses o w w'
-  pub opened : o ≡ H.Answer.done → Held w' s []
+  pub opened : o ≡ H.Answer.done → Held w' (openedBook s)
   pub log : w' .log ≡ w .log
 
 -- restore: the record's entries stand in front of the log; only a refusal at an entry leaves the area zero
-pub record Loaded (s : P.Setup) (rs : List M.Reply) (w w' : Words) : Type 0 where
-  pub held : Held w' s rs
-  pub log : w' .log ≡ logWords rs ++ drop (length (logWords rs)) (w .log)
+pub record Loaded (b : Book) (w w' : Words) : Type 0 where
+  pub held : Held w' b
+  pub log : w' .log ≡ logOf b ++ drop (length (logOf b)) (w .log)
 
 abbrev pub Restores : Reading → Words → Words → Type 0
-Restores (Reading.accepted s rs) w w' = Loaded s rs w w'
+Restores (Reading.accepted b) w w' = Loaded b w w'
 Restores (Reading.refused c) w w' = w' ≡ w
 Restores (Reading.refusedAtEntry c) w w' = w' ≡ zeroed w
 
@@ -82,9 +83,9 @@ pub record Stepped (c : Call) (w w' : Words) (o : H.Answer) : Type 0 where
 pub record Moved (r : M.Reply) (w w' : Words) : Type 0 where
   pub is : machineIn w' ≡ answer (machineIn w) r
   pub setup : setupOf w' ≡ setupOf w
-  pub entries : w' .state .entries ≡ w .state .entries + 1
-  pub words : w' .state .words ≡ w .state .words + length (entryWords r)
-  pub log : w' .log ≡ logIn w ++ entryWords r ++ drop (w' .state .words) (w .log)
+  pub entries : w' .state .extra .entries ≡ w .state .extra .entries + 1
+  pub words : w' .state .extra .words ≡ w .state .extra .words + length (entryWords r)
+  pub log : w' .log ≡ logIn w ++ entryWords r ++ drop (w' .state .extra .words) (w .log)
 
 pub record Replied (r : M.Reply) (w w' : Words) (o : H.Answer) : Type 0 where
   pub did : Did (Call.reply r) w w' o
@@ -94,12 +95,12 @@ pub record Replied (r : M.Reply) (w w' : Words) (o : H.Answer) : Type 0 where
 
 -- the log's words from the last entry that stays to the old last one are zero, the others as they were
 pub record Shortened (w w' : Words) : Type 0 where
-  pub words : w' .state .words ≤ w .state .words
-  pub log : w' .log ≡ take (w' .state .words) (w .log) ++ replicate (w .state .words - w' .state .words) 0 ++ drop (w .state .words) (w .log)
+  pub words : w' .state .extra .words ≤ w .state .extra .words
+  pub log : w' .log ≡ take (w' .state .extra .words) (w .log) ++ replicate (w .state .extra .words - w' .state .extra .words) 0 ++ drop (w .state .extra .words) (w .log)
 
 -- take back: the machine of the setup and the replies that stay
 pub record Taken (rs : List M.Reply) (w w' : Words) : Type 0 where
-  pub stands : Stands w' (setupOf w) rs
+  pub stands : Stands w' (book (setupOf w) rs)
   pub log : Shortened w w'
 
 -- by the replies that are to stay

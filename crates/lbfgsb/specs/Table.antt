@@ -15,15 +15,11 @@ use Rattle.definition.specs.Machine.{checkDue}
 use Rattle.definition.specs.Log.{entryWords, entriesKept}
 use Rattle.definition.specs.Record.{checkArea, readRecord, plainRefusal}
 use Rattle.definition.specs.Sound.{atEntry}
-use Rattle.definition.specs.History.{Call, Answer, outputShort, restoredAnswer}
+use Rattle.definition.specs.History.{Call, Answer, outputShort, refusedBy, restoredAnswer}
 use Rattle.driver.specs.Replies.{isHeld}
 use Rattle.lbfgsb.specs.Words.{Words, words, lengths, setupOf, machineIn, logIn}
 pub use Rattle.lookup.specs.Reading.{wordsOfEntry, frontEntry, recordIn}
 unfoldable pub use Rattle.lookup.specs.Reading.{entryIn}
-
-abbrev pub refusedBy : Check → Answer → Answer
-refusedBy none o = o
-refusedBy (some r) o = Answer.refused r
 
 -- a fit is held, or not
 abbrev pub byHeld : Words → Answer → Answer → Answer
@@ -32,7 +28,7 @@ byHeld w held none-held = cond (isHeld (w .state) (w .area)) held none-held
 -- ---- reply: 13, 14, 12
 
 abbrev pub checkAt : Words → M.Reply → Check
-checkAt w r = checkDue (machineIn w) r then when (ltb (length (w .log)) (w .state .words + length (entryWords r))) (refuse 12 0 0)
+checkAt w r = checkDue (machineIn w) r then when (ltb (length (w .log)) (w .state .extra .words + length (entryWords r))) (refuse 12 0 0)
 
 abbrev pub replyAnswer : Words → M.Reply → Answer
 replyAnswer w r = byHeld w (refusedBy (checkAt w r) Answer.done) (Answer.refused (plainRefusal 13))
@@ -41,14 +37,14 @@ replyAnswer w r = byHeld w (refusedBy (checkAt w r) Answer.done) (Answer.refused
 
 -- 12: the log is shorter than its entries
 abbrev pub shortLog : Words → Check
-shortLog w = when (ltb (length (w .log)) (w .state .words)) (refuse 12 0 0)
+shortLog w = when (ltb (length (w .log)) (w .state .extra .words)) (refuse 12 0 0)
 
 abbrev pub checkBack : Words → ℕ → Check
-checkBack w j = cond (isHeld (w .state) (w .area)) (when (ltb (w .state .entries) j) (refuse 16 0 0) then shortLog w) (when (ltb 0 j) (refuse 16 0 0))
+checkBack w j = cond (isHeld (w .state) (w .area)) (when (ltb (w .state .extra .entries) j) (refuse 16 0 0) then shortLog w) (when (ltb 0 j) (refuse 16 0 0))
 
 -- the replies that are to stay, as the definition reads them from the log: none where the log was altered and one of them is unknown, cut or not due
 abbrev pub repliesLeft : ℕ → Words → Option (List M.Reply)
-repliesLeft j w = entriesKept (setupOf w) (length (w .log)) (w .state .entries - j) (logIn w)
+repliesLeft j w = entriesKept (setupOf w) (w .state .extra .entries - j) (logIn w)
 
 abbrev pub stayAnswer : Option (List M.Reply) → Answer
 stayAnswer (some rs) = Answer.done
@@ -70,14 +66,14 @@ questionAnswer w room = byHeld w (questionOf w room (M.question (machineIn w))) 
 abbrev pub reportAnswer : Words → ℕ → Answer
 reportAnswer w room =
     byHeld w
-    (refusedBy (when (M.unreported (machineIn w .phase)) (refuse 15 0 0) then outputShort room (w .state .shape .n)) (Answer.reported (M.report (machineIn w))))
+    (refusedBy (when (M.unreported (machineIn w .phase)) (refuse 15 0 0) then outputShort room (w .state .shape .n)) (Answer.reported (M.reportNow (machineIn w))))
     (Answer.refused (plainRefusal 15))
 
 abbrev pub repliesAnswer : Words → Answer
-repliesAnswer w = byHeld w (Answer.counted (w .state .entries)) (Answer.counted 0)
+repliesAnswer w = byHeld w (Answer.counted (w .state .extra .entries)) (Answer.counted 0)
 
 abbrev pub entryKept : Words → ℕ → List ℕ
-entryKept w k = cond (ltb k (w .state .entries)) (entryIn (w .state .shape .n) k (logIn w)) []
+entryKept w k = cond (ltb k (w .state .extra .entries)) (entryIn (w .state .shape .n) k (logIn w)) []
 
 abbrev pub entryAnswer : Words → ℕ → ℕ → Answer
 entryAnswer w k room = byHeld w (refusedBy (shortLog w then outputShort room (length (entryKept w k))) (Answer.entered (entryKept w k))) (Answer.entered [])

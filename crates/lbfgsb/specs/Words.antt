@@ -7,4 +7,4 @@ pub use Rattle.held.specs.Words.{Words, words, lengths, setupOf, machineIn, log
 
 abbrev pub Holds : Words → History → Type 0
 Holds w History.empty = isHeld (w .state) (w .area) ≡ false
-Holds w (History.fit s rs) = Held w s rs
+Holds w (History.fit b) = Held w b

@@ -117,13 +117,13 @@ pub fn take_back(fit: Fit, area: &mut [f64], log: &mut [u64], j: usize) -> Answe
         }
         return Answer::Refused(refusal(16, 0));
     }
-    if fit.entries < j {
+    if fit.extra.entries < j {
         return Answer::Refused(refusal(16, 0));
     }
-    if log.len() < fit.words {
+    if log.len() < fit.extra.words {
         return Answer::Refused(refusal(12, 0));
     }
-    let left = fit.entries - j;
+    let left = fit.extra.entries - j;
     answered(rebuild::shorten(fit, area, log, left))
 }
 
@@ -187,7 +187,7 @@ pub fn replies(fit: Fit, area: &[f64]) -> usize
     ensures { λ r. ⌜ ((l : List ℕ) → Counted r (words fit (now (area .entry)) l)) ⌝ }
 {
     if driver::is_held(fit, area) {
-        return fit.entries;
+        return fit.extra.entries;
     }
     0
 }
@@ -200,11 +200,11 @@ pub fn entry(fit: Fit, area: &[f64], log: &[u64], k: usize, out: &mut [u64]) -> 
     if !driver::is_held(fit, area) {
         return Wrote::Is(0);
     }
-    let words = fit.words;
+    let words = fit.extra.words;
     if log.len() < words {
         return Wrote::Refused(refusal(12, 0));
     }
-    if fit.entries <= k {
+    if fit.extra.entries <= k {
         return Wrote::Is(0);
     }
     let n = fit.shape.n;
@@ -225,7 +225,7 @@ pub fn save(fit: Fit, area: &[f64], log: &[u64], out: &mut [u8]) -> Wrote
     if !driver::is_held(fit, area) {
         return Wrote::Is(0);
     }
-    let words = fit.words;
+    let words = fit.extra.words;
     if log.len() < words {
         return Wrote::Refused(refusal(12, 0));
     }

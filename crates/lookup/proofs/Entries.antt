@@ -17,7 +17,7 @@ use Rattle.definition.specs.Machine.{Reply}
 use Rattle.definition.specs.Driver.{run}
 use Rattle.definition.specs.Log.{entryWords, logWords}
 use Rattle.definition.specs.Replies.{Due}
-use Rattle.definition.specs.History.{entryAt}
+use Rattle.definition.specs.Book.{entryAt}
 use Rattle.definition.proofs.Accepted.{due-length}
 use Rattle.definition.proofs.Counts.{terms-stay}
 use Rattle.definition.proofs.Entries.{words-some}

@@ -10,7 +10,7 @@ use lib.Ieee.{Float}
 use Rattle.definition.specs.Problem as P
 use Rattle.definition.specs.Record.{trailer, bytes}
 use Rattle.definition.proofs.Bytes.{bytes-length}
-use Rattle.area.specs.Area.{view, Lower, Upper, X0}
+use Rattle.area.specs.Area.{view, firstPair, Lower, Upper, X0}
 use Rattle.area.proofs.Laws.{length-view, part-lent}
 use Rattle.area.proofs.Sizes.{within}
 use Rattle.problem.specs.Setups.{countOf}
@@ -29,7 +29,7 @@ use Rattle.lookup.specs.Reading.{recordIn, Placed}
 pub facts : (t : Fit) (a : List Float) → isHeld t a ≡ true → ReadyFacts t (length a)
 facts t a h = ready-facts t (length a) (held-ready t a h)
 
-pub vector-long : (t : Fit) (a : List Float) (q : ℕ) → q < 16 → isHeld t a ≡ true → length (view a (t .shape .n) q) ≡ t .shape .n
+pub vector-long : (t : Fit) (a : List Float) (q : ℕ) → q < firstPair → isHeld t a ≡ true → length (view a (t .shape .n) q) ≡ t .shape .n
 vector-long t a q k h =
     let f = facts t a h in
     length-view a (t .shape .n) q (omega (arith, within (t .shape .n) (t .shape .m) q (omega arith), f .area))
@@ -53,26 +53,26 @@ held-placed t a h =
     }
 
 -- the words of a setup are few
-setup-size : {k : ℕ} (b : Bool) (n : ℕ) → k ≡ setupSize b n → n ≤ 64 → k ≤ 199
+setup-size : {k : ℕ} (b : Bool) (n : ℕ) → k ≡ setupSize b n → n ≤ P.mostCoordinates → k ≤ 7 + 3 * P.mostCoordinates
 setup-size true n e h = omega arith
 setup-size false n e h = omega arith
 
-pub setup-few : {k : ℕ} (t : Fit) → k ≡ setupSize (t .options .bounded) (t .shape .n) → t .shape .n ≤ 64 → k ≤ 199
+pub setup-few : {k : ℕ} (t : Fit) → k ≡ setupSize (t .options .bounded) (t .shape .n) → t .shape .n ≤ P.mostCoordinates → k ≤ 7 + 3 * P.mostCoordinates
 setup-few t e h = setup-size (t .options .bounded) (t .shape .n) e h
 
 -- eight bytes a word: setup, log and trailer
-pub record-long : (t : Fit) (a : List Float) (l : List ℕ) → isHeld t a ≡ true → t .words ≤ length l
-    → length (recordIn (words t a l)) ≡ 8 * (setupSize (t .options .bounded) (t .shape .n) + t .words + 4)
+pub record-long : (t : Fit) (a : List Float) (l : List ℕ) → isHeld t a ≡ true → t .extra .words ≤ length l
+    → length (recordIn (words t a l)) ≡ 8 * (setupSize (t .options .bounded) (t .shape .n) + t .extra .words + 4)
 record-long t a l h r =
     let n = t .shape .n in
-    let log = take (t .words) l in
+    let log = take (t .extra .words) l in
     let ws = savedWords (t .options) (view a n X0) (view a n Lower) (view a n Upper) log in
     let size : length ws ≡ setupSize (t .options .bounded) (length (view a n X0)) + length log
     = saved-size (t .options) (view a n X0) (view a n Lower) (view a n Upper) (held-placed t a h .savable) log in
     let start : setupSize (t .options .bounded) (length (view a n X0)) ≡ setupSize (t .options .bounded) n
     = ap (setupSize (t .options .bounded)) (vector-long t a X0 (omega arith) h) in
     bytes-length (ws ++ trailer ws)
-    ∙ ap (λ (k : ℕ). 8 * k) (length-append ws (trailer ws) ∙ omega (arith, size, start, length-take-le (t .words) l r))
+    ∙ ap (λ (k : ℕ). 8 * k) (length-append ws (trailer ws) ∙ omega (arith, size, start, length-take-le (t .extra .words) l r))
 
 -- ---- the parts lent
 
@@ -81,22 +81,22 @@ abbrev lent : ℕ → List Float → ℕ → List Float
 lent n a q = take (q * n + n - q * n) (drop (q * n) a)
 
 module _ (t : Fit) (a : List Float) (l : List ℕ) where
-  pub record-lent : {size : ℕ} → Placed t a → t .words ≤ length l → 8 * (setupSize (t .options .bounded) (t .shape .n) + t .words + 4) ≤ size
+  pub record-lent : {size : ℕ} → Placed t a → t .extra .words ≤ length l → 8 * (setupSize (t .options .bounded) (t .shape .n) + t .extra .words + 4) ≤ size
       → Savable (t .options) (lent (t .shape .n) a X0) (lent (t .shape .n) a Lower) (lent (t .shape .n) a Upper)
-      × (8 * (setupSize (t .options .bounded) (length (lent (t .shape .n) a X0)) + length (take (t .words - 0) l) + 4) ≤ size)
+      × (8 * (setupSize (t .options .bounded) (length (lent (t .shape .n) a X0)) + length (take (t .extra .words - 0) l) + 4) ≤ size)
   record-lent h r f =
       let n = t .shape .n in
       let parts : Savable (t .options) (lent n a X0) (lent n a Lower) (lent n a Upper) = rw (part-lent a X0 n, part-lent a Lower n, part-lent a Upper n) (h .savable) in
       let long : length (lent n a X0) ≡ n = ap length (part-lent a X0 n) ∙ length-view a n X0 (omega (arith, h .room)) in
-      let log : length (take (t .words - 0) l) ≡ t .words = length-take-le (t .words - 0) l (omega arith) ∙ omega arith in
+      let log : length (take (t .extra .words - 0) l) ≡ t .extra .words = length-take-le (t .extra .words - 0) l (omega arith) ∙ omega arith in
       (parts, rw (long, log) f)
 
   pub record-put : (out out′ : List ℕ)
-      → out′ ≡ overwritten (bytes (savedRecord (t .options) (lent (t .shape .n) a X0) (lent (t .shape .n) a Lower) (lent (t .shape .n) a Upper) (take (t .words - 0) l))) out
+      → out′ ≡ overwritten (bytes (savedRecord (t .options) (lent (t .shape .n) a X0) (lent (t .shape .n) a Lower) (lent (t .shape .n) a Upper) (take (t .extra .words - 0) l))) out
       → out′ ≡ written (recordIn (words t a l)) out
   record-put out out′ e =
       let n = t .shape .n in
-      let log : take (t .words - 0) l ≡ take (t .words) l = let all : t .words - 0 ≡ t .words = omega arith in ap (λ (k : ℕ). take k l) all in
-      let is : bytes (savedRecord (t .options) (lent n a X0) (lent n a Lower) (lent n a Upper) (take (t .words - 0) l)) ≡ recordIn (words t a l)
+      let log : take (t .extra .words - 0) l ≡ take (t .extra .words) l = let all : t .extra .words - 0 ≡ t .extra .words = omega arith in ap (λ (k : ℕ). take k l) all in
+      let is : bytes (savedRecord (t .options) (lent n a X0) (lent n a Lower) (lent n a Upper) (take (t .extra .words - 0) l)) ≡ recordIn (words t a l)
       = rw (part-lent a X0 n, part-lent a Lower n, part-lent a Upper n, log) in
       e ∙ ap (λ (bs : List ℕ). written bs out) is

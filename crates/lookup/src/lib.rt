@@ -2,6 +2,7 @@
 ghost use mathlib.Core.Path.{_≡_};
 ghost use Prim.Native.Nat.{_+_, _-_, _*_, _≤_};
 ghost use lib.ListN.{length, take, drop};
+ghost use Rattle.definition.specs.Problem.{mostCoordinates};
 ghost use Rattle.question.specs.Reports.{written as writtenFirst};
 ghost use Rattle.record.specs.Records.{setupSize};
 ghost use Rattle.lookup.specs.Reading.{Begins, Placed};
@@ -11,7 +12,7 @@ use fit::Fit;
 
 // Where entry k begins, from 0 the oldest: the end where there is no such entry.
 pub fn entry_place(log: &[u64], n: usize, words: usize, k: usize) -> usize
-    requires { ⌜ (n ≤ 64) × (words ≤ length (now log)) ⌝ }
+    requires { ⌜ (n ≤ mostCoordinates) × (words ≤ length (now log)) ⌝ }
     ensures { λ r. ⌜ Begins n k (take words (now (log .entry))) r ⌝ }
 {
     let mut at = 0;
@@ -35,7 +36,7 @@ pub fn entry_place(log: &[u64], n: usize, words: usize, k: usize) -> usize
 
 // How many words the entry at a place takes: 0 at the end, or where it is unknown or cut.
 pub fn length_at(log: &[u64], n: usize, words: usize, at: usize) -> usize
-    requires { ⌜ (n ≤ 64) × (words ≤ length (now log)) ⌝ }
+    requires { ⌜ (n ≤ mostCoordinates) × (words ≤ length (now log)) ⌝ }
     ensures { λ r. ⌜ r ≡ length (frontEntry n (drop at (take words (now (log .entry))))) ⌝ }
 {
     if words <= at {
@@ -62,11 +63,11 @@ pub fn copy_words(log: &[u64], from: usize, count: usize, out: &mut [u64])
 
 // The record of what state, area and log hold, into the front of an output slice.
 pub fn put_record(t: Fit, area: &[f64], log: &[u64], out: &mut [u8])
-    requires { ⌜ Placed t (now area) × (t .words ≤ length (now log)) × (8 * (setupSize (t .options .bounded) (t .shape .n) + t .words + 4) ≤ length (now out)) ⌝ }
+    requires { ⌜ Placed t (now area) × (t .extra .words ≤ length (now log)) × (8 * (setupSize (t .options .bounded) (t .shape .n) + t .extra .words + 4) ≤ length (now out)) ⌝ }
     ensures { λ _. ⌜ now (out .exit) ≡ writtenFirst (recordIn (words t (now (area .entry)) (now (log .entry)))) (now (out .entry)) ⌝ }
 {
     let n = t.shape.n;
-    let words = t.words;
+    let words = t.extra.words;
     let o = t.options;
     let x0 = area::X0 * n;
     let lower = area::LOWER * n;

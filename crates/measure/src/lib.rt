@@ -1,11 +1,13 @@
 // When the gradient at a place is complete: the trial is accepted and learnt from, or the search goes on.
 ghost use mathlib.Core.Path.{_≡_};
-ghost use Prim.Native.Nat.{_≤_};
+ghost use Prim.Native.Nat.{_≤_, _<_};
 ghost use lib.ListN.{length};
+ghost use Rattle.definition.specs.Problem.{mostCoordinates};
 ghost use Rattle.definition.specs.Machine.{holding};
 ghost use Rattle.definition.specs.Driver.{learn as learnOf, move as moveOf, judgeTrial, measured as measuredOf, complete as completeOf};
+ghost use Rattle.counters.specs.Counts.{mostCounted};
 ghost use Rattle.compact.specs.State.{Sound};
-ghost use Rattle.fit.specs.State.{placeOf, Steps, Small};
+ghost use Rattle.fit.specs.State.{placeOf, Steps};
 ghost use Rattle.measure.specs.Ready.{Ready};
 use counters::Termination;
 use fit::Fit;
@@ -45,7 +47,7 @@ fn hold(t: Fit, area: &mut [f64]) -> Fit
 
 // The driver moves to the trial and gives notice.
 fn move_on(t: Fit, area: &mut [f64]) -> Fit
-    requires { ⌜ Sound (t .shape) (length (now area)) × Small (t .counters) ⌝ }
+    requires { ⌜ Sound (t .shape) (length (now area)) × (t .counters .nit < mostCounted) ⌝ }
     ensures { λ r. ⌜ Steps moveOf t (now (area .entry)) r (now (area .exit)) ⌝ }
 {
     let k = t.counters;
@@ -59,7 +61,7 @@ fn move_on(t: Fit, area: &mut [f64]) -> Fit
 
 // The run ends here unless the search hands back a step.
 fn judge_trial(t: Fit, area: &mut [f64]) -> Fit
-    requires { ⌜ Sound (t .shape) (length (now area)) × Small (t .counters) ⌝ }
+    requires { ⌜ Sound (t .shape) (length (now area)) × (t .counters .nit < mostCounted) ⌝ }
     ensures { λ r. ⌜ Steps judgeTrial t (now (area .entry)) r (now (area .exit)) ⌝ }
 {
     let n = t.shape.n;
@@ -79,7 +81,7 @@ fn judge_trial(t: Fit, area: &mut [f64]) -> Fit
 
 // At the start the driver begins to iterate; a trial is judged.
 fn measured(t: Fit, w: Place, area: &mut [f64]) -> Fit
-    requires { ⌜ Sound (t .shape) (length (now area)) × Small (t .counters) × (t .shape .n ≤ 64) ⌝ }
+    requires { ⌜ Sound (t .shape) (length (now area)) × (t .counters .nit < mostCounted) × (t .shape .n ≤ mostCoordinates) ⌝ }
     ensures { λ r. ⌜ Steps (measuredOf (placeOf w)) t (now (area .entry)) r (now (area .exit)) ⌝ }
 {
     match w {

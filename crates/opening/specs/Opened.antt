@@ -12,7 +12,7 @@ use Rattle.definition.specs.Compact.{noPairs}
 use Rattle.definition.specs.Counters.{firstCounters}
 use Rattle.definition.specs.Machine as M
 use Rattle.definition.specs.Driver as D
-use Rattle.area.specs.Area.{Vecs, view, upd, X, G, Lower, Upper, X0, Trial, TrialGradient, Direction}
+use Rattle.area.specs.Area.{Vecs, view, upd, vectors, FreeKept, X, G, Lower, Upper, X0, Trial, TrialGradient, Direction}
 use Rattle.problem.specs.declared.Options.{Options}
 use Rattle.problem.specs.Setups.{setupIn, boundsIn, placesIn, limitsIn, floatOf, schemeOf, boxOf}
 use Rattle.search.specs.declared.Trials.{Trials}
@@ -28,7 +28,7 @@ setupAt o v = setupIn o (v X0) (v Lower) (v Upper)
 
 -- room for n coordinates and the pairs that the options allow
 pub record Room (o : Options) (n size : ℕ) : Type 0 where
-  pub all : (16 + 4 * placesIn o) * n ≤ size
+  pub all : vectors (placesIn o) * n ≤ size
   pub few : placesIn o ≤ 16
   pub some : 0 < placesIn o
 
@@ -48,10 +48,11 @@ boxed false n v = upd (upd v Lower (P.openBounds n .lower)) Upper (P.openBounds 
 abbrev pub clipped : ℕ → Vecs → List Float
 clipped n v = tab n (λ i. P.inBox (boxOf (v Lower) (v Upper)) i (word (v X0) i))
 
--- a setup's start and bounds stand in the vectors v
-pub record Stored (bounded : Bool) (x0 l u : List Float) (v : Vecs) : Type 0 where
+-- a setup's start and bounds stand in the vectors v, which were a
+pub record Stored (bounded : Bool) (x0 l u : List Float) (a v : Vecs) : Type 0 where
   pub start : v X0 ≡ x0
   pub bounds : boundsIn bounded (v Lower) (v Upper) ≡ boundsIn bounded l u
+  pub free : FreeKept a v
 
 -- every vector that is read before it is next written
 abbrev pub firstVectors : ℕ → Vecs → Vecs
@@ -84,20 +85,22 @@ firstMachine o n v = record {
 
 pub record First (o : Options) (n : ℕ) (r : Fit) : Type 0 where
   pub options : r .options ≡ o
-  pub entries : r .entries ≡ 0
-  pub words : r .words ≡ 0
+  pub entries : r .extra .entries ≡ 0
+  pub words : r .extra .words ≡ 0
   pub shape : r .shape ≡ firstShape o n
   pub settled : Settled (r .search) (r .trials)
   pub is : (v : Vecs) → machine r v ≡ firstMachine o n v
 
--- r with the area b is the machine that the setup s begins with, and s can be read off them again
-pub record Opened (o : Options) (k : ℕ) (s : P.Setup) (size : ℕ) (r : Fit) (b : List Float) : Type 0 where
+-- r with the area b, which was a, is the machine that the setup s begins with, and s can be read off them again
+pub record Opened (o : Options) (k : ℕ) (s : P.Setup) (a : List Float) (r : Fit) (b : List Float) : Type 0 where
   pub options : r .options ≡ o
-  pub entries : r .entries ≡ 0
-  pub words : r .words ≡ 0
+  pub entries : r .extra .entries ≡ 0
+  pub words : r .extra .words ≡ 0
   pub n : r .shape .n ≡ k
   pub m : r .shape .m ≡ placesIn o
-  pub sound : Sound (r .shape) size
+  pub long : length b ≡ length a
+  pub sound : Sound (r .shape) (length b)
   pub settled : Settled (r .search) (r .trials)
   pub setup : setupAt o (view b k) ≡ s
+  pub free : FreeKept (view a k) (view b k)
   pub is : machineOf r b ≡ D.begin s

@@ -4,11 +4,12 @@ ghost use Prim.Native.Nat.{_*_, _≤_};
 ghost use mathlib.Core.Bool.{true};
 ghost use lib.ListN.{length};
 ghost use Rattle.definition.specs.Driver.{noSearch};
-ghost use Rattle.area.specs.Area.{view, upd, X};
+ghost use Rattle.area.specs.Area.{view, upd, firstPair, X};
 ghost use Rattle.problem.specs.Setups.{setupIn};
 ghost use Rattle.search.specs.State.{searchOf, Settled};
 ghost use Rattle.opening.specs.Opened.{setupAt, Room, Fits, boxed, clipped, firstVectors, noTrials, First, Stored, Opened};
 use compact::Shape;
+use fit::Extra;
 use fit::Fit;
 use fit::Phase;
 use fit::Place;
@@ -18,7 +19,7 @@ use search::Trials;
 
 // Bounds that hold nothing back, where the setup has none.
 fn open_box(area: &mut [f64], n: usize, bounded: bool)
-    requires { ⌜ 16 * n ≤ length (now area) ⌝ }
+    requires { ⌜ firstPair * n ≤ length (now area) ⌝ }
     ensures { λ _. ⌜ view (now (area .exit)) n ≡ boxed bounded n (view (now (area .entry)) n) ⌝ }
 {
     if bounded {
@@ -30,7 +31,7 @@ fn open_box(area: &mut [f64], n: usize, bounded: bool)
 
 // The start brought into the box.
 fn clip_start(area: &mut [f64], n: usize)
-    requires { ⌜ 16 * n ≤ length (now area) ⌝ }
+    requires { ⌜ firstPair * n ≤ length (now area) ⌝ }
     ensures { λ _. ⌜ (let v = view (now (area .entry)) n in view (now (area .exit)) n ≡ upd v X (clipped n v)) ⌝ }
 {
     let mut i = 0;
@@ -45,7 +46,7 @@ fn clip_start(area: &mut [f64], n: usize)
 
 // Every vector that is read before it is next written.
 fn first_vectors(area: &mut [f64], n: usize)
-    requires { ⌜ 16 * n ≤ length (now area) ⌝ }
+    requires { ⌜ firstPair * n ≤ length (now area) ⌝ }
     ensures { λ _. ⌜ view (now (area .exit)) n ≡ firstVectors n (view (now (area .entry)) n) ⌝ }
 {
     clip_start(area, n);
@@ -96,15 +97,17 @@ fn first_fit(o: Options, n: usize) -> Fit
         right: 0.0,
         before: 0.0,
         theta: 1.0,
-        entries: 0,
-        words: 0,
+        extra: Extra {
+            entries: 0,
+            words: 0,
+        },
     }
 }
 
 // From the setup that stands in options and area, whatever else the area holds.
 pub fn reset(o: Options, area: &mut [f64], n: usize) -> Fit
     requires { ⌜ Room o n (length (now area)) ⌝ }
-    ensures { λ r. ⌜ Opened o n (setupAt o (view (now (area .entry)) n)) (length (now (area .entry))) r (now (area .exit)) ⌝ }
+    ensures { λ r. ⌜ Opened o n (setupAt o (view (now (area .entry)) n)) (now (area .entry)) r (now (area .exit)) ⌝ }
 {
     open_box(area, n, o.bounded);
     first_vectors(area, n);
@@ -113,8 +116,8 @@ pub fn reset(o: Options, area: &mut [f64], n: usize) -> Fit
 
 // A setup's vectors into the area: the bounds only where they count.
 fn store_setup(area: &mut [f64], n: usize, bounded: bool, x0: &[f64], lower: &[f64], upper: &[f64])
-    requires { ⌜ (16 * n ≤ length (now area)) × (length (now x0) ≡ n) × (bounded ≡ true → length (now lower) ≡ n) × (bounded ≡ true → length (now upper) ≡ n) ⌝ }
-    ensures { λ _. ⌜ Stored bounded (now (x0 .entry)) (now (lower .entry)) (now (upper .entry)) (view (now (area .exit)) n) ⌝ }
+    requires { ⌜ (firstPair * n ≤ length (now area)) × (length (now x0) ≡ n) × (bounded ≡ true → length (now lower) ≡ n) × (bounded ≡ true → length (now upper) ≡ n) ⌝ }
+    ensures { λ _. ⌜ Stored bounded (now (x0 .entry)) (now (lower .entry)) (now (upper .entry)) (view (now (area .entry)) n) (view (now (area .exit)) n) ⌝ }
 {
     area::store(area, n, area::X0, x0);
     if bounded {
@@ -126,7 +129,7 @@ fn store_setup(area: &mut [f64], n: usize, bounded: bool, x0: &[f64], lower: &[f
 // From a setup: no word of the area that is ever read stays from before.
 pub fn begin(o: Options, area: &mut [f64], x0: &[f64], lower: &[f64], upper: &[f64]) -> Fit
     requires { ⌜ Room o (length (now x0)) (length (now area)) × Fits o (length (now x0)) (now lower) (now upper) ⌝ }
-    ensures { λ r. ⌜ Opened o (length (now (x0 .entry))) (setupIn o (now (x0 .entry)) (now (lower .entry)) (now (upper .entry))) (length (now (area .entry))) r (now (area .exit)) ⌝ }
+    ensures { λ r. ⌜ Opened o (length (now (x0 .entry))) (setupIn o (now (x0 .entry)) (now (lower .entry)) (now (upper .entry))) (now (area .entry)) r (now (area .exit)) ⌝ }
 {
     let n = x0.len();
     store_setup(area, n, o.bounded, x0, lower, upper);

@@ -1,4 +1,4 @@
--- What an accepted setup has: 1 to 64 coordinates, 1 to 16 pairs, budgets of 1 to 1,000,000, and bounds as long as its start. Assumes nothing.
+-- What an accepted setup has: 1 to `mostCoordinates` coordinates, 1 to 16 pairs, budgets of 1 to 1,000,000, and bounds as long as its start. Assumes nothing.
 use mathlib.Core.Path.{_≡_, refl, ap}
 use mathlib.Core.Bool.{Bool, true, false}
 use mathlib.Core.List.{List}
@@ -10,7 +10,7 @@ use lib.Dec.{eqb, ltb}
 use lib.ListN.{length}
 use Rattle.definition.specs.Number.{infinity, negInfinity}
 use Rattle.definition.specs.Vector.{tab}
-use Rattle.definition.specs.Problem.{Setup, Bounds, Check, refuse, when, _then_, given, positive, finiteNonnegative, atMost, checkSide, checkBounds}
+use Rattle.definition.specs.Problem.{Setup, Bounds, Check, refuse, when, _then_, given, positive, finiteNonnegative, mostCoordinates, atMost, checkSide, checkBounds}
 use Rattle.definition.specs.Problem.{checkProblem, checkCommon, checkOptions, checkLimits, validate, orElse, openBounds, boundsOf, budgetOf, maxcorOf, dimension}
 use Rattle.problem.specs.Setups.{eachFinite}
 use Rattle.problem.proofs.Laws.{side-long}
@@ -51,7 +51,7 @@ upper-passed n (some b) e = side-long n (b .upper) (first-passed (checkSide n (b
 
 pub record Accepted (s : Setup) : Type 0 where
   pub n-low : 1 ≤ dimension s
-  pub n-high : dimension s ≤ 64
+  pub n-high : dimension s ≤ mostCoordinates
   pub pairs-low : 1 ≤ maxcorOf s
   pub pairs-high : maxcorOf s ≤ 16
   pub iterations-low : 1 ≤ budgetOf (s .maxiter)
@@ -73,11 +73,11 @@ accepted s e =
     let limits = rest-passed (checkOptions s) _ rest' in
     let box = rest-passed (eachFinite (s .x0)) _ (rest-passed (when (eqb n 0) (refuse 1 0 0)) _ problem) in
     let pairs = rest-passed (given (finiteNonnegative 2) (s .gtol)) _ (rest-passed (given (finiteNonnegative 1) (s .ftol)) _ options) in
-    let most = rest-passed (atMost 64 1 n) _ limits in
+    let most = rest-passed (atMost mostCoordinates 1 n) _ limits in
     let budgets = rest-passed (given (atMost 16 2) (s .maxcor)) _ most in
     record {
       n-low = let h = eqb-false n 0 (test-failed (eqb n 0) 1 0 0 (first-passed (when (eqb n 0) (refuse 1 0 0)) _ problem)) in omega arith;
-      n-high = ltb-false 64 n (test-failed (ltb 64 n) 10 1 0 (first-passed (atMost 64 1 n) _ limits));
+      n-high = ltb-false mostCoordinates n (test-failed (ltb mostCoordinates n) 10 1 0 (first-passed (atMost mostCoordinates 1 n) _ limits));
       pairs-low = count-low 3 10 (s .maxcor) (omega arith) (first-passed (given (positive 3) (s .maxcor)) _ pairs);
       pairs-high = count-high 16 2 10 (s .maxcor) (omega arith) (first-passed (given (atMost 16 2) (s .maxcor)) _ most);
       iterations-low = count-low 1 15_000 (s .maxiter) (omega arith) (first-passed (given (positive 1) (s .maxiter)) _ common);

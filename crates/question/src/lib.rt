@@ -4,8 +4,8 @@ ghost use Prim.Native.Nat.{_+_, _*_, _≤_, _<_};
 ghost use lib.ListN.{length};
 ghost use Rattle.definition.specs.Vector.{word};
 ghost use Rattle.definition.specs.Gradient.{probesAt};
-ghost use Rattle.definition.specs.Machine.{probePoint, kindOf, statusOf, unreported as unreportedIn, question as questionOf, report as reportIn};
-ghost use Rattle.area.specs.Area.{Vecs, view, Trial, Lower, Upper, X};
+ghost use Rattle.definition.specs.Machine.{probePoint, kindOf, statusOf, unreported as unreportedIn, question as questionOf, reportNow as reportIn};
+ghost use Rattle.area.specs.Area.{Vecs, view, firstPair, Trial, Lower, Upper, X};
 ghost use Rattle.compact.specs.State.{Sound};
 ghost use Rattle.problem.specs.Setups.{floatOf, schemeOf};
 ghost use Rattle.gradient.specs.Probing.{probesIn, probesFor};
@@ -47,7 +47,7 @@ pub fn kind_of(p: Phase) -> usize
 
 // What is probed of coordinate i of the trial point, by the parts of a fit that say so.
 pub fn probes_by(n: usize, eps: MaybeFloat, scheme: Scheme, area: &[f64], i: usize) -> Probes
-    requires { ⌜ (16 * n ≤ length (now area)) × (i < n) ⌝ }
+    requires { ⌜ (firstPair * n ≤ length (now area)) × (i < n) ⌝ }
     ensures { λ r. ⌜ probesIn r ≡ probesFor (floatOf eps) (schemeOf scheme) (word (now (area .entry)) (Trial * n + i)) (word (now (area .entry)) (Lower * n + i)) (word (now (area .entry)) (Upper * n + i)) ⌝ }
 {
     let x = area[area::TRIAL * n + i];
@@ -166,7 +166,7 @@ pub fn outcome_of(t: Fit) -> Outcome
         nit: k.nit,
         nfev: k.nfev,
         njev: k.njev,
-        drawn: k.drawn,
+        drawn: k.nfev,
     }
 }
 

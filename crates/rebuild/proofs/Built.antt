@@ -18,7 +18,7 @@ use Rattle.definition.specs.Machine as M
 use Rattle.definition.specs.Driver.{begin}
 use Rattle.definition.specs.Log.{Entries}
 use Rattle.definition.proofs.Tests.{by-test}
-use Rattle.area.specs.Area.{view, X0}
+use Rattle.area.specs.Area.{view, vectors, FreeKept, X0}
 use Rattle.problem.specs.Setups.{placesIn, setupIn}
 use Rattle.problem.specs.declared.Options.{Options}
 use Rattle.compact.specs.declared.Shape.{Shape}
@@ -37,7 +37,7 @@ use Rattle.replay.specs.Replays.{Keeps, Replays}
 use Rattle.replay.specs.declared.Replayed.{Replayed}
 use Rattle.replay.specs.declared.Replayed.the-variants as R
 use Rattle.rebuild.specs.Built.{zeroed, Markable, Settles, allOf, Built, Unbuilt, Builds, Cut, Stays}
-use Rattle.held.proofs.Laws.{setup-same, marked-setup}
+use Rattle.held.proofs.Laws.{setup-same, marked-setup, marks-saved}
 use Rattle.rebuild.proofs.Reread.{refused-kept, short-kept}
 
 -- ---- the opening
@@ -46,7 +46,7 @@ use Rattle.rebuild.proofs.Reread.{refused-kept, short-kept}
 pub ready-room : (t : Fit) (size : ℕ) → isReady t size ≡ true → Room (t .options) (t .shape .n) size
 ready-room t size h =
     let f = ready-facts t size h in
-    let all = subst (λ (m : ℕ). (16 + 4 * m) * t .shape .n ≤ size) (sym (f .places)) (f .ready .sound .all) in
+    let all = subst (λ (m : ℕ). vectors m * t .shape .n ≤ size) (sym (f .places)) (f .ready .sound .all) in
     record { all = all; few = omega (arith, f .places, f .ready .sound .few); some = omega (arith, f .places, f .some) }
 
 opened-within : (p : Phase) (n : ℕ) → phaseOf p ≡ M.Phase.value M.Place.start → Within p n
@@ -57,21 +57,21 @@ opened-within Notice n e = tt
 opened-within (Ended t) n e = tt
 
 -- a setup opened again, in the place of a fit that passes the test, passes it too, whether or not the setup is accepted
-pub opened-ready : (t : Fit) {r : Fit} {s : Setup} {b : List Float} → isReady t (length b) ≡ true → Opened (t .options) (t .shape .n) s (length b) r b → isReady r (length b) ≡ true
+pub opened-ready : (t : Fit) {r : Fit} {s : Setup} {a b : List Float}
+    → isReady t (length a) ≡ true → Opened (t .options) (t .shape .n) s a r b → isReady r (length b) ≡ true
 unfolding begin
-opened-ready t {r} {s} {b} h k =
-    let f = ready-facts t (length b) h in
+opened-ready t {r} {s} {a} {b} h k =
+    let f = ready-facts t (length b) (rw (k .long) h) in
     let m : r .shape .m ≡ t .shape .m = k .m ∙ f .places in
     let counts : countersOf (r .counters) ≡ C.firstCounters = ap (λ (x : M.Machine). x .counters) (k .is) in
     let nit : r .counters .nit ≡ 0 = ap (λ (x : C.Counters). x .nit) counts in
     let njev : r .counters .njev ≡ 0 = ap (λ (x : C.Counters). x .njev) counts in
-    let drawn : r .counters .drawn ≡ 1 = ap (λ (x : C.Counters). x .drawn) counts in
     let area : areaWords (r .shape .n) (r .shape .m) ≤ length b = rw (k .n, m) (f .area) in
     facts-ready r (length b)
     (record {
       ready = record {
         sound = k .sound;
-        small = record { nit = omega (arith, nit); drawn = omega (arith, drawn) };
+        nit = omega (arith, nit);
         njev = omega (arith, njev);
         n = omega (arith, k .n, f .ready .n);
       };
@@ -85,10 +85,6 @@ opened-ready t {r} {s} {b} h k =
       words = omega (arith, k .words);
     })
 
--- the area is as long as before
-pub opened-here : {o : Options} {n size : ℕ} {s : Setup} {r : Fit} {b : List Float} → length b ≡ size → Opened o n s size r b → Opened o n s (length b) r b
-opened-here {o} {n} {s = s} {r = r} {b = b} e k = subst (λ (i : ℕ). Opened o n s i r b) (sym e) k
-
 -- ---- three vectors one behind the other
 
 module _ (o : Options) (v : List Float) (n : ℕ) where
@@ -101,15 +97,15 @@ module _ (o : Options) (v : List Float) (n : ℕ) where
       let upper : length (take (3 * n - 2 * n) (drop (2 * n) v)) ≡ n = length-take-le (3 * n - 2 * n) (drop (2 * n) v) (omega (arith, length-drop (2 * n) v)) ∙ omega arith in
       (subst (λ (i : ℕ). Room o i size) (sym start) k, record { lower = λ e. lower ∙ sym start; upper = λ e. upper ∙ sym start })
 
-  pub parts-opened : {size : ℕ} {r : Fit} {b : List Float} → 3 * n ≤ length v
-      → Opened o (length (take (n - 0) v)) (setupIn o (take (n - 0) v) (take (2 * n - n) (drop n v)) (take (3 * n - 2 * n) (drop (2 * n) v))) size r b
-      → Opened o n (setupFrom o v n) size r b
-  parts-opened {size} {r} {b} h k =
+  pub parts-opened : {a : List Float} {r : Fit} {b : List Float} → 3 * n ≤ length v
+      → Opened o (length (take (n - 0) v)) (setupIn o (take (n - 0) v) (take (2 * n - n) (drop n v)) (take (3 * n - 2 * n) (drop (2 * n) v))) a r b
+      → Opened o n (setupFrom o v n) a r b
+  parts-opened {a} {r} {b} h k =
       let first : n - 0 ≡ n = omega arith in
       let second : 2 * n - n ≡ n = omega arith in
       let third : 3 * n - 2 * n ≡ n = omega arith in
       let start : length (take n v) ≡ n = length-take-le n v (omega arith) in
-      subst (λ (i : ℕ). Opened o i (setupFrom o v n) size r b) start (rw (first, second, third) at k)
+      subst (λ (i : ℕ). Opened o i (setupFrom o v n) a r b) start (rw (first, second, third) at k)
 
 -- ---- the replay
 
@@ -118,14 +114,14 @@ markable (R.Done f) h = h .kept .shape
 markable (R.Refused c) h = tt
 
 -- fewer entries than are to stay, and no fewer
-pub all-short : (r : Replayed) (f : Fit) (count : ℕ) → r ≡ R.Done f → f .entries < count → R.Refused 17 ≡ allOf r count
-all-short r f count e l = rw (e, lt-ltb (f .entries) count l)
+pub all-short : (r : Replayed) (f : Fit) (count : ℕ) → r ≡ R.Done f → f .extra .entries < count → R.Refused 17 ≡ allOf r count
+all-short r f count e l = rw (e, lt-ltb (f .extra .entries) count l)
 
-pub all-there : (r : Replayed) (f : Fit) (count : ℕ) → r ≡ R.Done f → count ≤ f .entries → R.Done f ≡ allOf r count
-all-there r f count e l = rw (e, le-ltb (f .entries) count l)
+pub all-there : (r : Replayed) (f : Fit) (count : ℕ) → r ≡ R.Done f → count ≤ f .extra .entries → R.Done f ≡ allOf r count
+all-there r f count e l = rw (e, le-ltb (f .extra .entries) count l)
 
 pub markable-all : {t : Fit} {a : List Float} {ws : List ℕ} {limit room : ℕ} (r : Replayed) {b : List Float} → Replays t a ws limit room r b → Markable (allOf r limit) (length b)
-markable-all {limit = limit} (R.Done f) {b} h = by-test (λ (q : Replayed). Markable q (length b)) (ltb (f .entries) limit) (λ e. tt) (λ e. h .kept .shape)
+markable-all {limit = limit} (R.Done f) {b} h = by-test (λ (q : Replayed). Markable q (length b)) (ltb (f .extra .entries) limit) (λ e. tt) (λ e. h .kept .shape)
 markable-all (R.Refused c) h = tt
 
 record Ring (h : Shape) (size : ℕ) : Type 0 where
@@ -141,14 +137,14 @@ held-ring h size k = search (and-l, and-r, ltb-true, leb-true) depth 9
 held-sound : (h : Shape) (size : ℕ) → shapeHeld h size ≡ true → Sound h size
 held-sound h size k = let r = held-ring h size k in omega (arith, r)
 
-module _ {o : Options} {n : ℕ} {s : Setup} {t : Fit} {a : List Float} (k : Opened o n s (length a) t a) where
+module _ {o : Options} {n : ℕ} {s : Setup} {t : Fit} {was a : List Float} (k : Opened o n s was t a) where
   opened-setup : setupAt (t .options) (view a (t .shape .n)) ≡ s
   opened-setup = rw (k .options, k .n) (k .setup)
 
   module _ {ws : List ℕ} {limit room : ℕ} where
     kept-setup : {f : Fit} {b : List Float} → Keeps t a ws limit room f b → setupAt (f .options) (view b (f .shape .n)) ≡ s
     kept-setup {f} {b} h =
-        let x0 = ap (λ (i : ℕ). view b i X0) (h .n) ∙ h .x0 in
+        let x0 = ap (λ (i : ℕ). view b i X0) (h .n) ∙ h .saved .x0 in
         setup-same (f .options) (view a (t .shape .n)) (view b (f .shape .n)) x0 (ap (λ (x : Terms). x .bounds .lower) (h .terms)) (ap (λ (x : Terms). x .bounds .upper) (h .terms))
         ∙ ap (λ (p : Options). setupAt p (view a (t .shape .n))) (h .options)
         ∙ opened-setup
@@ -160,14 +156,21 @@ module _ {o : Options} {n : ℕ} {s : Setup} {t : Fit} {a : List Float} (k : Ope
         = ap (λ (x : Terms). areaWords (x .n) (x .maxcor)) (h .terms ∙ ap (λ (x : M.Machine). x .terms) (k .is)) in
         omega (arith, needed, held-ring (f .shape) (length b) (h .shape) .area)
 
-    built : {f : Fit} {b c : List Float} → Replays t a ws limit room (R.Done f) b → Marks (f .shape) b c → Built s ws limit room (length a) f c
+    -- the free vectors pass through the opening, the replay and the mark
+    kept-free : {f : Fit} {b c : List Float} → Keeps t a ws limit room f b → Marks (f .shape) b c → FreeKept (view was (f .shape .n)) (view c (f .shape .n))
+    kept-free {f} {b} {c} h m q l u =
+        let same : t .shape .n ≡ f .shape .n = sym (h .n) in
+        marks-saved m .free q l u ∙ (rw same at (h .saved .free q l u)) ∙ (rw (sym (k .n) ∙ same) at (k .free q l u))
+
+    built : {f : Fit} {b c : List Float} → Replays t a ws limit room (R.Done f) b → Marks (f .shape) b c → Built s ws limit room was f c
     built {f} {b} {c} h m =
         let kept = h .kept in
         let sound = held-sound (f .shape) (length b) (kept .shape) in
         let same = marked-machine f b c sound m in
         record {
-          long = m .size ∙ h .size;
+          long = m .size ∙ h .size ∙ k .long;
           setup = marked-setup (f .options) f b c m ∙ kept-setup kept;
+          free = kept-free kept m;
           sound = rw (m .size) sound;
           mark = m .mark;
           settled = kept .settled (k .settled);
@@ -179,7 +182,7 @@ module _ {o : Options} {n : ℕ} {s : Setup} {t : Fit} {a : List Float} (k : Ope
               let r = h .is s e (k .is) in
               record {
                 replies = r .replies;
-                after = r .after ∙ ap (Entries.going (drop (f .words) ws) (r .replies)) (sym same);
+                after = r .after ∙ ap (Entries.going (drop (f .extra .words) ws) (r .replies)) (sym same);
                 due = r .due;
                 is = same ∙ r .is;
                 spelled = r .spelled;
@@ -189,48 +192,49 @@ module _ {o : Options} {n : ℕ} {s : Setup} {t : Fit} {a : List Float} (k : Ope
               };
         }
 
-    unbuilt : {number : ℕ} {b d : List Float} → Replays t a ws limit room (R.Refused number) b → d ≡ zeroed b → Unbuilt s ws limit room (length a) number d
+    unbuilt : {number : ℕ} {b d : List Float} → Replays t a ws limit room (R.Refused number) b → d ≡ zeroed b → Unbuilt s ws limit room (length was) number d
     unbuilt h z = record {
       which = h .kept;
-      area = z ∙ ap (λ (i : ℕ). replicate i zero64) (h .size);
+      area = z ∙ ap (λ (i : ℕ). replicate i zero64) (h .size ∙ k .long);
       is = λ e. h .is s e (k .is);
     }
 
-    pub builds : (r : Replayed) (b c : List Float) → Replays t a ws limit room r b → Settles r b c → Builds s ws limit room (length a) r c
+    pub builds : (r : Replayed) (b c : List Float) → Replays t a ws limit room r b → Settles r b c → Builds s ws limit room was r c
     builds (R.Done f) b c h m = built h m
     builds (R.Refused i) b c h m = unbuilt h m
 
     -- of entries that are all to stay, of few words
     module _ (few : length ws < mostWords) (fits : length ws ≤ room) where
-      cut-short : {f : Fit} {b d : List Float} → Replays t a ws limit room (R.Done f) b → f .entries < limit → d ≡ zeroed b
-          → Cut s ws limit room (length a) 17 d
+      cut-short : {f : Fit} {b d : List Float} → Replays t a ws limit room (R.Done f) b → f .extra .entries < limit → d ≡ zeroed b
+          → Cut s ws limit (length was) 17 d
       cut-short h l z = record {
         which = refl;
-        area = z ∙ ap (λ (i : ℕ). replicate i zero64) (h .size);
-        is = short-kept limit (h .is s (inr few) (k .is)) (⊎-elim (λ w. w) (λ w. absurd (omega (arith, w))) (h .kept .stopped)) l;
+        area = z ∙ ap (λ (i : ℕ). replicate i zero64) (h .size ∙ k .long);
+        is = short-kept limit fits (h .is s (inr few) (k .is)) (⊎-elim (λ w. w) (λ w. absurd (omega (arith, w))) (h .kept .stopped)) l;
       }
 
-      all-stay : {f : Fit} {b c : List Float} → Replays t a ws limit room (R.Done f) b → limit ≤ f .entries → Marks (f .shape) b c
-          → Stays s ws limit room (length a) (R.Done f) c
+      all-stay : {f : Fit} {b c : List Float} → Replays t a ws limit room (R.Done f) b → limit ≤ f .extra .entries → Marks (f .shape) b c
+          → Stays s ws limit room was (R.Done f) c
       all-stay h l m = let r = built h m in (r, omega (arith, h .kept .few), r .is (inr few))
 
       stays : (r : Replayed) (b c : List Float) → Replays t a ws limit room r b → Settles (allOf r limit) b c
-          → Stays s ws limit room (length a) (allOf r limit) c
+          → Stays s ws limit room was (allOf r limit) c
       stays (R.Refused i) b c h m =
           let u = unbuilt h m in
           let which = ⊎-elim (λ e. e) (λ e. absurd (omega (arith, e .1))) (u .which) in
-          record { which = which; area = u .area; is = refused-kept s ws limit room i (u .is (inr few)) }
+          record { which = which; area = u .area; is = refused-kept s ws limit room i fits (u .is (inr few)) }
       stays (R.Done f) b c h m =
-          by-test (λ (q : Replayed). Settles q b c → Stays s ws limit room (length a) q c) (ltb (f .entries) limit)
-          (λ e z. cut-short h (ltb-true (f .entries) limit e) z)
-          (λ e z. all-stay h (ltb-false (f .entries) limit e) z)
+          by-test (λ (q : Replayed). Settles q b c → Stays s ws limit room was q c) (ltb (f .extra .entries) limit)
+          (λ e z. cut-short h (ltb-true (f .extra .entries) limit e) z)
+          (λ e z. all-stay h (ltb-false (f .extra .entries) limit e) z)
           m
 
       pub stays-by : (r : Replayed) (b c : List Float) → Replays t a ws limit room r b → (q : Replayed) → q ≡ allOf r limit → Settles q b c
-          → Stays s ws limit room (length a) q c
+          → Stays s ws limit room was q c
       stays-by r b c h q e m =
-          subst (λ (x : Replayed). Stays s ws limit room (length a) x c) (sym e) (stays r b c h (subst (λ (x : Replayed). Settles x b c) e m))
+          subst (λ (x : Replayed). Stays s ws limit room was x c) (sym e) (stays r b c h (subst (λ (x : Replayed). Settles x b c) e m))
 
 -- the fit has no more words than were replayed
-pub built-fewer : {s : Setup} {limit room size : ℕ} {f : Fit} {b : List Float} (k : ℕ) (l : List ℕ) → Built s (take k l) limit room size f b → k ≤ length l → f .words ≤ k
+pub built-fewer : {s : Setup} {limit room : ℕ} {a : List Float} {f : Fit} {b : List Float} (k : ℕ) (l : List ℕ)
+    → Built s (take k l) limit room a f b → k ≤ length l → f .extra .words ≤ k
 built-fewer k l h r = omega (arith, h .words, length-take-le k l r)

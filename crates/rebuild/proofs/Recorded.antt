@@ -12,6 +12,7 @@ use Rattle.definition.specs.Log.{entriesOf}
 use Rattle.definition.specs.Record.{readRecord, readingOf, wordsOf, setupIn}
 use Rattle.definition.proofs.Accepted.{accepted-in-limits}
 use Rattle.definition.proofs.Bytes.{wordsOf-length}
+use Rattle.area.specs.Area.{vectors}
 use Rattle.problem.specs.Setups.{placesIn}
 use Rattle.problem.specs.declared.Options.{Options}
 use Rattle.fit.specs.declared.Fit.{Fit}
@@ -23,7 +24,6 @@ use Rattle.record.proofs.Reading.{words-drop, needed}
 use Rattle.record.proofs.Floats.{opened-setup}
 use Rattle.rebuild.specs.Built.{entriesIn, Built}
 use Rattle.held.proofs.Laws.{reached-ready, opened-reached}
-use Rattle.rebuild.proofs.Built.{opened-here}
 
 module _ (bs : List ℕ) (size : ℕ) (o : Options) (f : Frame) (h : Opens bs size o f) where
   abbrev pub setup : Setup
@@ -52,19 +52,19 @@ module _ (bs : List ℕ) (size : ℕ) (o : Options) (f : Frame) (h : Opens bs si
       let need : areaWords (f .n) (placesIn o) ≡ areaNeeded setup = needed bs f (h .placed) (h .whole) o (h .options) (placesIn o) (areaWords (f .n) (placesIn o)) refl refl in
       record { all = enough (f .n) (placesIn o) size (omega (arith, need, h .room)); few = omega (arith, l .pairs, places); some = omega (arith, l .pairs, places) }
     where
-      enough : (n m size : ℕ) → areaWords n m ≤ size → (16 + 4 * m) * n ≤ size
+      enough : (n m size : ℕ) → areaWords n m ≤ size → vectors m * n ≤ size
       enough n m size k = omega arith
 
   -- the fit that `begin` makes of it
-  pub record-opened : {v : List Float} {r : Fit} {b : List Float} → v ≡ floatsOf (take (f .setup - 7) (drop 7 (wordsIn bs f))) → length b ≡ size
-      → Opened o (f .n) (setupFrom o v (f .n)) size r b → Opened o (f .n) (setupIn (wordsIn bs f)) (length b) r b
-  record-opened {v} {r} {b} e z k =
-      opened-here z (subst (λ (s : Setup). Opened o (f .n) s size r b) (ap (λ (x : List Float). setupFrom o x (f .n)) e ∙ opened-setup bs size o f h) k)
+  pub record-opened : {v : List Float} {a : List Float} {r : Fit} {b : List Float} → v ≡ floatsOf (take (f .setup - 7) (drop 7 (wordsIn bs f)))
+      → Opened o (f .n) (setupFrom o v (f .n)) a r b → Opened o (f .n) (setupIn (wordsIn bs f)) a r b
+  record-opened {v} {a} {r} {b} e k =
+      subst (λ (s : Setup). Opened o (f .n) s a r b) (ap (λ (x : List Float). setupFrom o x (f .n)) e ∙ opened-setup bs size o f h) k
 
-  pub record-ready : {r : Fit} {b : List Float} → length b ≡ size → Opened o (f .n) (setupIn (wordsIn bs f)) (length b) r b → isReady r (length b) ≡ true
-  record-ready {r} {b} z k = reached-ready (opened-reached (h .accepted) (subst (λ (i : ℕ). areaNeeded setup ≤ i) (sym z) (h .room)) k)
+  pub record-ready : {a : List Float} {r : Fit} {b : List Float} → length a ≡ size → Opened o (f .n) (setupIn (wordsIn bs f)) a r b → isReady r (length b) ≡ true
+  record-ready z k = reached-ready (opened-reached (h .accepted) (subst (λ (i : ℕ). areaNeeded setup ≤ i) (sym (k .long ∙ z)) (h .room)) k)
 
   -- what `copy_entries` asks
-  pub copies-within : {s : Setup} {limit room long : ℕ} {t : Fit} {b : List Float} → Built s (entriesIn bs f) limit room long t b
-      → (f .at + 8 * f .setup + 8 * t .words ≤ length bs) × (t .words ≤ room)
+  pub copies-within : {s : Setup} {limit room : ℕ} {a : List Float} {t : Fit} {b : List Float} → Built s (entriesIn bs f) limit room a t b
+      → (f .at + 8 * f .setup + 8 * t .extra .words ≤ length bs) × (t .extra .words ≤ room)
   copies-within k = (omega (arith, k .words, entries-long, entries-within), k .within)

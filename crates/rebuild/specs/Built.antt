@@ -13,7 +13,7 @@ use Rattle.definition.specs.Problem as P
 use Rattle.definition.specs.Problem.{areaNeeded}
 use Rattle.definition.specs.Log.{entriesKept}
 use Rattle.definition.specs.Record.{wordsOf}
-use Rattle.area.specs.Area.{view}
+use Rattle.area.specs.Area.{view, FreeKept}
 use Rattle.compact.specs.State.{Sound}
 use Rattle.search.specs.State.{Settled}
 use Rattle.fit.specs.declared.Fit.{Fit}
@@ -54,22 +54,23 @@ Settles (R.Refused k) a b = b ≡ zeroed a
 
 -- the replay of a log's first `count` entries: refused where there are fewer
 abbrev pub allOf : Replayed → ℕ → Replayed
-allOf (R.Done f) count = cond (ltb (f .entries) count) (R.Refused 17) (R.Done f)
+allOf (R.Done f) count = cond (ltb (f .extra .entries) count) (R.Refused 17) (R.Done f)
 allOf (R.Refused c) count = R.Refused c
 
 -- ---- a fit built from a setup and the words of entries
 
--- f with the marked area b, of `size` words, holds the setup s and what at most `limit` entries of ws make of it
-pub record Built (s : P.Setup) (ws : List ℕ) (limit room size : ℕ) (f : Fit) (b : List Float) : Type 0 where
-  pub long : length b ≡ size
+-- f with the marked area b, which was a, holds the setup s and what at most `limit` entries of ws make of it
+pub record Built (s : P.Setup) (ws : List ℕ) (limit room : ℕ) (a : List Float) (f : Fit) (b : List Float) : Type 0 where
+  pub long : length b ≡ length a
   pub setup : setupAt (f .options) (view b (f .shape .n)) ≡ s
+  pub free : FreeKept (view a (f .shape .n)) (view b (f .shape .n))
   pub sound : Sound (f .shape) (length b)
   pub mark : marked (f .shape) b ≡ true
   pub settled : Settled (f .search) (f .trials)
   pub area : areaNeeded s ≤ length b
-  pub words : f .words ≤ length ws
-  pub within : f .words ≤ room
-  pub stopped : (f .words ≡ length ws) ⊎ (f .entries ≡ limit)
+  pub words : f .extra .words ≤ length ws
+  pub within : f .extra .words ≤ room
+  pub stopped : (f .extra .words ≡ length ws) ⊎ (f .extra .entries ≡ limit)
   pub is : Replayable s ws → ReplayedTo s ws room f b
 
 -- an entry is refused, for want of room only where there are more words than room: the area is zero
@@ -78,29 +79,29 @@ pub record Unbuilt (s : P.Setup) (ws : List ℕ) (limit room size number : ℕ) 
   pub area : b ≡ replicate size zero64
   pub is : Replayable s ws → RefusedAt s ws limit room number
 
-abbrev pub Builds : P.Setup → List ℕ → ℕ → ℕ → ℕ → Replayed → List Float → Type 0
-Builds s ws limit room size (R.Done f) b = Built s ws limit room size f b
-Builds s ws limit room size (R.Refused c) b = Unbuilt s ws limit room size c b
+abbrev pub Builds : P.Setup → List ℕ → ℕ → ℕ → List Float → Replayed → List Float → Type 0
+Builds s ws limit room a (R.Done f) b = Built s ws limit room a f b
+Builds s ws limit room a (R.Refused c) b = Unbuilt s ws limit room (length a) c b
 
 -- an entry that is to stay is unknown, cut or not due: the area is zero
-pub record Cut (s : P.Setup) (ws : List ℕ) (count room size number : ℕ) (b : List Float) : Type 0 where
+pub record Cut (s : P.Setup) (ws : List ℕ) (count size number : ℕ) (b : List Float) : Type 0 where
   pub which : number ≡ 17
   pub area : b ≡ replicate size zero64
-  pub is : entriesKept s room count ws ≡ none
+  pub is : entriesKept s count ws ≡ none
 
 -- of a log's first `count` entries, all of which are to stay: the fit of just as many, or none; with any setup, as the definition reads them
-abbrev pub Stays : P.Setup → List ℕ → ℕ → ℕ → ℕ → Replayed → List Float → Type 0
-Stays s ws count room size (R.Done f) b = Built s ws count room size f b × (f .entries ≡ count) × ReplayedTo s ws room f b
-Stays s ws count room size (R.Refused c) b = Cut s ws count room size c b
+abbrev pub Stays : P.Setup → List ℕ → ℕ → ℕ → List Float → Replayed → List Float → Type 0
+Stays s ws count room a (R.Done f) b = Built s ws count room a f b × (f .extra .entries ≡ count) × ReplayedTo s ws room f b
+Stays s ws count room a (R.Refused c) b = Cut s ws count (length a) c b
 
 -- ---- the log
 
 -- the words from the fit's last entry to another number are zero; as it was where an entry is refused
 abbrev pub Shortens : Replayed → ℕ → List ℕ → List ℕ → Type 0
-Shortens (R.Done f) to l m = m ≡ struckOut (f .words) to l
+Shortens (R.Done f) to l m = m ≡ struckOut (f .extra .words) to l
 Shortens (R.Refused c) to l m = m ≡ l
 
 -- the words of the record's entries stand in front; as it was where one is refused
 abbrev pub Reloads : Replayed → List ℕ → Frame → List ℕ → List ℕ → Type 0
-Reloads (R.Done t) bs f l m = m ≡ headed (wordsOf (t .words) (drop (f .at + 8 * f .setup) bs)) l
+Reloads (R.Done t) bs f l m = m ≡ headed (wordsOf (t .extra .words) (drop (f .at + 8 * f .setup) bs)) l
 Reloads (R.Refused c) bs f l m = m ≡ l

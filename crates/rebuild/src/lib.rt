@@ -44,7 +44,7 @@ fn all_of(r: Replayed, count: usize) -> Replayed
     match r {
         Replayed::Refused(_) => r,
         Replayed::Done(t) => {
-            if t.entries < count {
+            if t.extra.entries < count {
                 return Replayed::Refused(17);
             }
             r
@@ -69,15 +69,15 @@ fn settle(area: &mut [f64], r: Replayed)
 // The first fit of options and three vectors of n words one behind the other.
 fn begin_from(o: Options, area: &mut [f64], v: &[f64], n: usize) -> Fit
     requires { ⌜ Room o n (length (now area)) × (3 * n ≤ length (now v)) ⌝ }
-    ensures { λ r. ⌜ Opened o n (setupFrom o (now (v .entry)) n) (length (now (area .entry))) r (now (area .exit)) ⌝ }
+    ensures { λ r. ⌜ Opened o n (setupFrom o (now (v .entry)) n) (now (area .entry)) r (now (area .exit)) ⌝ }
 {
     opening::begin(o, area, &v[0..n], &v[n..2 * n], &v[2 * n..3 * n])
 }
 
 // The fit of the log's first `count` entries, no fewer, from the setup that state and area hold.
 fn replay_log(fit: Fit, area: &mut [f64], log: &[u64], count: usize) -> Replayed
-    requires { ⌜ (isReady fit (length (now area)) ≡ true) × (fit .words ≤ length (now log)) ⌝ }
-    ensures { λ o. ⌜ Stays (setupAt (fit .options) (view (now (area .entry)) (fit .shape .n))) (take (fit .words) (now (log .entry))) count (length (now (log .entry))) (length (now (area .entry))) o (now (area .exit)) ⌝ }
+    requires { ⌜ (isReady fit (length (now area)) ≡ true) × (fit .extra .words ≤ length (now log)) ⌝ }
+    ensures { λ o. ⌜ Stays (setupAt (fit .options) (view (now (area .entry)) (fit .shape .n))) (take (fit .extra .words) (now (log .entry))) count (length (now (log .entry))) (now (area .entry)) o (now (area .exit)) ⌝ }
 {
     let o = fit.options;
     let t = opening::reset(o, area, fit.shape.n);
@@ -85,7 +85,7 @@ fn replay_log(fit: Fit, area: &mut [f64], log: &[u64], count: usize) -> Replayed
     let source = Source {
         recorded: false,
         at: 0,
-        words: fit.words,
+        words: fit.extra.words,
     };
     let r = replay::replay(t, area, source, log, &none[..], count, log.len());
     let all = all_of(r, count);
@@ -102,7 +102,7 @@ fn replay_record(
     f: record::Frame,
 ) -> Replayed
     requires { ⌜ Opens (now input) (length (now area)) o f ⌝ }
-    ensures { λ r. ⌜ Builds (setupRead (wordsIn (now (input .entry)) f)) (entriesIn (now (input .entry)) f) (f .words - f .setup) (length (now (log .entry))) (length (now (area .entry))) r (now (area .exit)) ⌝ }
+    ensures { λ r. ⌜ Builds (setupRead (wordsIn (now (input .entry)) f)) (entriesIn (now (input .entry)) f) (f .words - f .setup) (length (now (log .entry))) (now (area .entry)) r (now (area .exit)) ⌝ }
 {
     let v = record::vectors(input, f);
     let t = begin_from(o, area, &v, f.n);
@@ -131,14 +131,14 @@ fn copy_entries(log: &mut [u64], input: &[u8], at: usize, count: usize)
 
 // The log's first `count` entries are kept: the fit of them, and the words of the others zeroed. Where one is refused the log stays.
 pub fn shorten(fit: Fit, area: &mut [f64], log: &mut [u64], count: usize) -> Replayed
-    requires { ⌜ (isReady fit (length (now area)) ≡ true) × (fit .words ≤ length (now log)) ⌝ }
-    ensures { λ r. ⌜ Stays (setupAt (fit .options) (view (now (area .entry)) (fit .shape .n))) (take (fit .words) (now (log .entry))) count (length (now (log .entry))) (length (now (area .entry))) r (now (area .exit)) × Shortens r (fit .words) (now (log .entry)) (now (log .exit)) ⌝ }
+    requires { ⌜ (isReady fit (length (now area)) ≡ true) × (fit .extra .words ≤ length (now log)) ⌝ }
+    ensures { λ r. ⌜ Stays (setupAt (fit .options) (view (now (area .entry)) (fit .shape .n))) (take (fit .extra .words) (now (log .entry))) count (length (now (log .entry))) (now (area .entry)) r (now (area .exit)) × Shortens r (fit .extra .words) (now (log .entry)) (now (log .exit)) ⌝ }
 {
     let built = replay_log(fit, area, log, count);
     let Replayed::Done(back) = built else {
         return built;
     };
-    zero_log(log, back.words, fit.words);
+    zero_log(log, back.extra.words, fit.extra.words);
     built
 }
 
@@ -151,12 +151,12 @@ pub fn reload(
     f: record::Frame,
 ) -> Replayed
     requires { ⌜ Opens (now input) (length (now area)) o f ⌝ }
-    ensures { λ r. ⌜ Builds (setupRead (wordsIn (now (input .entry)) f)) (entriesIn (now (input .entry)) f) (f .words - f .setup) (length (now (log .entry))) (length (now (area .entry))) r (now (area .exit)) × Reloads r (now (input .entry)) f (now (log .entry)) (now (log .exit)) ⌝ }
+    ensures { λ r. ⌜ Builds (setupRead (wordsIn (now (input .entry)) f)) (entriesIn (now (input .entry)) f) (f .words - f .setup) (length (now (log .entry))) (now (area .entry)) r (now (area .exit)) × Reloads r (now (input .entry)) f (now (log .entry)) (now (log .exit)) ⌝ }
 {
     let built = replay_record(area, log, input, o, f);
     let Replayed::Done(read) = built else {
         return built;
     };
-    copy_entries(log, input, f.at + 8 * f.setup, read.words);
+    copy_entries(log, input, f.at + 8 * f.setup, read.extra.words);
     built
 }

@@ -14,6 +14,7 @@ use Rattle.definition.specs.Number.{toWord}
 use Rattle.definition.specs.Problem.{Scheme, orElse, validate}
 use Rattle.definition.specs.Machine.{Reply}
 use Rattle.definition.specs.Log.{logWords}
+use Rattle.definition.specs.Book.{book}
 use Rattle.definition.specs.Record as R
 use Rattle.definition.specs.Record.{boxFlag, schemeFlag, boundWords, setupWords, sumsFrom, sums, bytesOf, bytes, added, trailer, recordWords, recordBytes}
 use Rattle.definition.proofs.Bytes.{bytes-length, bytes-append}
@@ -262,7 +263,7 @@ record-put ws out m r t count h e room f =
     ∙ ap (λ (b : List ℕ). overwritten b out) (sym (bytes-append ws (trailer ws)))
 
 -- with the log's words of replies it is their record
-pub saved-is : (o : Options) (x0 l u : List Float) (rs : List Reply) → bytes (savedRecord o x0 l u (logWords rs)) ≡ recordBytes (P.setupIn o x0 l u) rs
+pub saved-is : (o : Options) (x0 l u : List Float) (rs : List Reply) → bytes (savedRecord o x0 l u (logWords rs)) ≡ recordBytes (book (P.setupIn o x0 l u) rs)
 unfolding recordBytes recordWords
 saved-is o x0 l u rs = refl
 

@@ -19,6 +19,7 @@ use Rattle.fit.specs.State.{machine, machineOf, phaseOf, Steps}
 use Rattle.fit.specs.declared.Fit.{Fit}
 use Rattle.fit.specs.declared.Phase.{Phase}
 use Rattle.fit.specs.declared.Phase.the-variants.{Value, Gradient, Probe, Notice, Ended}
+use Rattle.area.proofs.Laws.{saved-refl, saved-upd}
 use Rattle.fit.proofs.Laws.{put, steps-as, steps-at}
 use Rattle.question.specs.Reports.{Within}
 use Rattle.driver.specs.Replies.{advanced}
@@ -90,7 +91,7 @@ supplied-steps : {t f : Fit} {a b d : List Float} (ws : List ℕ) → isDue t R.
     → Steps (λ (m : M.Machine). D.answer m (M.Reply.gradient ws)) t a f d
 supplied-steps {t} {a = a} ws due e h =
     let v = view a (t .shape .n) in
-    steps-at h e refl
+    steps-at h e (saved-upd TrialGradient _ (omega arith) (λ e. omega arith) saved-refl)
     (ap (advanced R.Gradient) (put t v TrialGradient (map toFloat ws) (omega arith)) ∙ gradient-answered (machineOf t a) ws due)
 
 pub gradient-steps : (r : Reply) {t f : Fit} {a b d : List Float} (ws : List ℕ) → r ≡ R.Gradient → isDue t r ≡ true

@@ -10,11 +10,10 @@ use lib.Dec.{eqb}
 use lib.ListN.{length, getD, take, drop, length-drop, take-append-drop}
 use lib.Seq.{drop-cons, drop-drop, length-take-le}
 use Rattle.definition.specs.Machine as M
-use Rattle.definition.specs.Machine.{suits, takes, checkDue}
+use Rattle.definition.specs.Machine.{takes, checkDue}
 use Rattle.definition.specs.Driver as D
 use Rattle.definition.specs.Log.{Entries, entryOf, entryWords, logWords, admit, nextEntry}
 use Rattle.definition.proofs.Entries.{words-some}
-use Rattle.driver.specs.Replies.{replyOf}
 use Rattle.driver.specs.declared.Reply.{Reply}
 use Rattle.driver.specs.declared.Reply.the-variants as R
 use Rattle.record.specs.Records.{entrySize}
@@ -165,22 +164,6 @@ pub gradient-fits : (r : Reply) (n at k : ℕ) → r ≡ R.Gradient → at + siz
 gradient-fits r n at k e h = let size : sizeOf r n ≡ n + 1 = ap (λ (q : Reply). sizeOf q n) e in omega (arith, size)
 
 -- ---- whether it is due
-
-pub suits-replied : (k : ℕ) (r : Reply) (m : M.Machine) (gs : List ℕ) → suits k (replyOf r m) ≡ suits k (replied r gs)
-suits-replied k (R.Value v) m gs = refl
-suits-replied k R.Gradient m gs = refl
-suits-replied k R.NotSupplied m gs = refl
-suits-replied k R.GoOn m gs = refl
-suits-replied k R.Stop m gs = refl
-suits-replied k R.Failure m gs = refl
-
-pub suits-any : (k : ℕ) (r : Reply) (gs hs : List ℕ) → suits k (replied r gs) ≡ suits k (replied r hs)
-suits-any k (R.Value v) gs hs = refl
-suits-any k R.Gradient gs hs = refl
-suits-any k R.NotSupplied gs hs = refl
-suits-any k R.GoOn gs hs = refl
-suits-any k R.Stop gs hs = refl
-suits-any k R.Failure gs hs = refl
 
 pub due-checked : {ws : List ℕ} {at l : ℕ} (m : M.Machine) (r : Reply) → Reads (m .terms .n) ws at r l
     → takes m (replied r (gradientAt (m .terms .n) ws at)) ≡ true → checkDue m (replied r (gradientAt (m .terms .n) ws at)) ≡ none

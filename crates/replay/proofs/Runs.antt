@@ -1,5 +1,5 @@
 -- Laws of a run of probes: an entry that leads from probe to probe is taken, and so are some. Assumes nothing.
-use mathlib.Core.Path.{_≡_, refl, sym, ap, ap₂, _∙_, subst}
+use mathlib.Core.Path.{_≡_, refl, sym, ap, _∙_, subst}
 use mathlib.Core.Bool.{true}
 use mathlib.Core.List.{List}
 use Prim.Native.Nat.{ℕ, _+_, _≤_, _<_}
@@ -11,6 +11,7 @@ use Rattle.definition.specs.Machine as M
 use Rattle.definition.specs.Driver as D
 use Rattle.compact.specs.State.{Sound}
 use Rattle.fit.specs.State.{placeOf, sideOf, machineOf, withPhase}
+use Rattle.fit.specs.declared.Extra.{Extra}
 use Rattle.fit.specs.declared.Fit.{Fit}
 use Rattle.fit.specs.declared.Place.{Place}
 use Rattle.fit.specs.declared.Phase.{Phase}
@@ -38,10 +39,10 @@ value-reads n ws at e r l v h k reads = subst (λ (z : Reply). Reads n ws at z l
 pub turn-stays : {F : M.Place → M.Machine → M.Machine} {q : Probing} {t : Fit} {a b : List Float} (r : Turned) → r ≡ Stays → TurnIs F q t a r b → b ≡ a
 turn-stays {F} {q} {t} {a} {b} r e h = subst (λ (z : Turned). TurnIs F q t a z b) e h .is
 
-module _ (t : Fit) (q : Probing) (a : List Float) (ws : List ℕ) (limit room l v : ℕ) (here : q .words < length ws) (h : Reads (t .shape .n) ws (q .words) (R.Value v) l) where
+module _ (t : Fit) (q : Probing) (a : List Float) (ws : List ℕ) (limit room l v : ℕ) (here : q .extra .words < length ws) (h : Reads (t .shape .n) ws (q .extra .words) (R.Value v) l) where
   taken-on : (x : Float) (p : Probing) (b : List Float) → Sound (t .shape) (length a) → shapeHeld (t .shape) (length a) ≡ true → q .i < t .shape .n
-      → q .entries < limit → q .words + l ≤ room → x ≡ toFloat v → length b ≡ length a → TurnIs (λ w. D.onProbe w (q .i) (sideOf (q .side)) x) q t a (On p) b
-      → TakenIs t q a ws limit room (On (logged (q .entries + 1) (q .words + l) p)) b
+      → q .extra .entries < limit → q .extra .words + l ≤ room → x ≡ toFloat v → length b ≡ length a → TurnIs (λ w. D.onProbe w (q .i) (sideOf (q .side)) x) q t a (On p) b
+      → TakenIs t q a ws limit room (On (logged (q .extra .entries + 1) (q .extra .words + l) p)) b
   taken-on x p b all held within few fits e size k = record {
     is = (
       k .is .0,
@@ -50,13 +51,13 @@ module _ (t : Fit) (q : Probing) (a : List Float) (ws : List ℕ) (limit room l 
           let s = k .is .1 w in
           took-by (probing w q t) a ws room here (R.Value v) l h all held within refl fits size
           (steps-as s (ap (λ (y : Float). D.onProbe (placeOf w) (q .i) (sideOf (q .side)) y (machineOf (probing w q t) a)) e))
-          (ap₂ (λ (i j : ℕ). withLog i j (probing w p t)) (ap (λ (i : ℕ). i + 1) (sym (s .kept .entries))) (ap (λ (i : ℕ). i + l) (sym (s .kept .words)))),
+          (ap (λ (x : Extra). withLog (x .entries + 1) (x .words + l) (probing w p t)) (sym (s .kept .extra))),
     );
   }
 
   pub entry-taken : (x : Float) (r : Turned) (p : Probing) (b : List Float) → r ≡ On p → Sound (t .shape) (length a) → shapeHeld (t .shape) (length a) ≡ true
-      → q .i < t .shape .n → q .entries < limit → q .words + l ≤ room → x ≡ toFloat v → length b ≡ length a
-      → TurnIs (λ w. D.onProbe w (q .i) (sideOf (q .side)) x) q t a r b → TakenIs t q a ws limit room (On (logged (q .entries + 1) (q .words + l) p)) b
+      → q .i < t .shape .n → q .extra .entries < limit → q .extra .words + l ≤ room → x ≡ toFloat v → length b ≡ length a
+      → TurnIs (λ w. D.onProbe w (q .i) (sideOf (q .side)) x) q t a r b → TakenIs t q a ws limit room (On (logged (q .extra .entries + 1) (q .extra .words + l) p)) b
   entry-taken x r p b is all held within few fits e size k =
       taken-on x p b all held within few fits e size (subst (λ (z : Turned). TurnIs (λ w. D.onProbe w (q .i) (sideOf (q .side)) x) q t a z b) is k)
 
@@ -88,7 +89,7 @@ module _ {ws : List ℕ} {limit room : ℕ} {t : Fit} {w : Place} {a b d : List 
       taken = Run.taken (probing w q t) b (probing w p t) d (h .taken) (on .is .1) size (on .is .2 w);
     }
 
-    pub run-words : q .words < p .words
+    pub run-words : q .extra .words < p .extra .words
     run-words = took-more (on .is .2 w)
 
 -- the fit put together
@@ -101,6 +102,6 @@ pub at-probe : (t : Fit) (p : Phase) → t .phase ≡ p → t ≡ withPhase p t
 at-probe t p e = ap (λ (z : Phase). withPhase z t) e
 
 -- no entry is struck
-pub run-least : {ws : List ℕ} {limit room : ℕ} {t f : Fit} {a b : List Float} → Run ws limit room t a f b → t .words ≤ f .words
+pub run-least : {ws : List ℕ} {limit room : ℕ} {t f : Fit} {a b : List Float} → Run ws limit room t a f b → t .extra .words ≤ f .extra .words
 run-least Run.begun = omega arith
 run-least (Run.taken f b g d r l size k) = omega (arith, run-least r, took-more k)

@@ -12,7 +12,7 @@ use Rattle.definition.specs.Driver as D
 use Rattle.definition.specs.Log.{Entries, logWords}
 use Rattle.definition.specs.Record.{wordsOf}
 use Rattle.definition.specs.Replies.{Accepted, Due}
-use Rattle.area.specs.Area.{view, X0}
+use Rattle.area.specs.Area.{view, Saved}
 use Rattle.search.specs.State.{Settled}
 use Rattle.fit.specs.State.{machineOf}
 use Rattle.fit.specs.declared.Fit.{Fit}
@@ -48,8 +48,7 @@ withLog entries words t = record {
   right = t .right;
   before = t .before;
   theta = t .theta;
-  entries = entries;
-  words = words;
+  extra = record { entries = entries; words = words };
 }
 
 -- ---- a replay
@@ -61,12 +60,12 @@ Replayable s ws = Accepted s ⊎ (length ws < mostWords)
 -- f with the area b is the setup's machine after as many entries as f says, and can be advanced
 pub record ReplayedTo (s : P.Setup) (ws : List ℕ) (room : ℕ) (f : Fit) (b : List Float) : Type 0 where
   pub replies : List M.Reply
-  pub after : afterEntries (f .entries) room (firstEntries s ws) ≡ Entries.going (drop (f .words) ws) replies (machineOf f b)
+  pub after : afterEntries (f .extra .entries) room (firstEntries s ws) ≡ Entries.going (drop (f .extra .words) ws) replies (machineOf f b)
   pub due : Due s replies
   pub is : machineOf f b ≡ D.run s replies
-  pub spelled : logWords replies ++ drop (f .words) ws ≡ ws
-  pub entries : f .entries ≡ length replies
-  pub words : f .words ≡ length (logWords replies)
+  pub spelled : logWords replies ++ drop (f .extra .words) ws ≡ ws
+  pub entries : f .extra .entries ≡ length replies
+  pub words : f .extra .words ≡ length (logWords replies)
   pub ready : isReady f (length b) ≡ true
 
 -- the definition refuses an entry, no later than the number asked for
@@ -86,13 +85,13 @@ pub record Keeps (t : Fit) (a : List Float) (ws : List ℕ) (limit room : ℕ) (
   pub m : f .shape .m ≡ t .shape .m
   pub shape : shapeHeld (f .shape) (length b) ≡ true
   pub settled : Settled (t .search) (t .trials) → Settled (f .search) (f .trials)
-  pub x0 : view b (t .shape .n) X0 ≡ view a (t .shape .n) X0
+  pub saved : Saved (view a (t .shape .n)) (view b (t .shape .n))
   pub terms : machineOf f b .terms ≡ machineOf t a .terms
-  pub few : f .entries ≤ limit
-  pub words : f .words ≤ length ws
-  pub within : f .words ≤ room
+  pub few : f .extra .entries ≤ limit
+  pub words : f .extra .words ≤ length ws
+  pub within : f .extra .words ≤ room
   -- it stopped at the last word, or at the number of entries asked for
-  pub stopped : (f .words ≡ length ws) ⊎ (f .entries ≡ limit)
+  pub stopped : (f .extra .words ≡ length ws) ⊎ (f .extra .entries ≡ limit)
 
 abbrev pub Kept : Fit → List Float → List ℕ → ℕ → ℕ → Replayed → List Float → Type 0
 Kept t a ws limit room (Done f) b = Keeps t a ws limit room f b

@@ -12,7 +12,7 @@ use Rattle.definition.specs.Machine as M
 use Rattle.definition.specs.Machine.{suits, kindOf, checkDue}
 use Rattle.definition.specs.Driver as D
 use Rattle.definition.specs.Log.{Entries, entryOf, entryWords, logWords, nextEntry}
-use Rattle.area.specs.Area.{view, X0}
+use Rattle.area.specs.Area.{view, Saved}
 use Rattle.compact.specs.State.{Sound}
 use Rattle.search.specs.State.{Settled}
 use Rattle.fit.specs.State.{machineOf, phaseOf}
@@ -23,6 +23,7 @@ use Rattle.replies.specs.declared.Turned.{Turned}
 use Rattle.replies.specs.declared.Turned.the-variants.{Stays, On}
 use Rattle.replies.specs.Runs.{probing}
 use Rattle.driver.specs.Replies.{shapeHeld, isReady}
+pub use Rattle.driver.specs.Replies.{replied}
 use Rattle.driver.specs.declared.Reply.{Reply}
 use Rattle.driver.specs.declared.Reply.the-variants as R
 use Rattle.replay.specs.declared.Entry.{Entry}
@@ -31,15 +32,6 @@ use Rattle.replay.specs.declared.Replayed.{Replayed}
 use Rattle.replay.specs.declared.Replayed.the-variants.{Done, Refused}
 
 -- ---- reading an entry
-
--- the reply, with the words of a gradient beside it
-abbrev pub replied : Reply → List ℕ → M.Reply
-replied (R.Value w) gs = M.Reply.value w
-replied R.Gradient gs = M.Reply.gradient gs
-replied R.NotSupplied gs = M.Reply.notSupplied
-replied R.GoOn gs = M.Reply.goOn
-replied R.Stop gs = M.Reply.stop
-replied R.Failure gs = M.Reply.failure
 
 -- how many words its entry has, of n coordinates
 abbrev pub sizeOf : Reply → ℕ → ℕ
@@ -90,27 +82,27 @@ pub record Took (t : Fit) (a : List Float) (ws : List ℕ) (room : ℕ) (f : Fit
   pub reply : M.Reply
   pub due : checkDue (machineOf t a) reply ≡ none
   pub is : machineOf f b ≡ D.answer (machineOf t a) reply
-  pub spelled : entryWords reply ++ drop (f .words) ws ≡ drop (t .words) ws
-  pub next : (rs : List M.Reply) → t .words ≡ length (logWords rs)
-      → nextEntry room (drop (t .words) ws) rs (machineOf t a) ≡ Entries.going (drop (f .words) ws) (reply ∷ rs) (machineOf f b)
-  pub entries : f .entries ≡ t .entries + 1
-  pub words : f .words ≡ t .words + length (entryWords reply)
-  pub last : f .words ≤ length ws
-  pub within : f .words ≤ room
+  pub spelled : entryWords reply ++ drop (f .extra .words) ws ≡ drop (t .extra .words) ws
+  pub next : (rs : List M.Reply) → t .extra .words ≡ length (logWords rs)
+      → nextEntry room (drop (t .extra .words) ws) rs (machineOf t a) ≡ Entries.going (drop (f .extra .words) ws) (reply ∷ rs) (machineOf f b)
+  pub entries : f .extra .entries ≡ t .extra .entries + 1
+  pub words : f .extra .words ≡ t .extra .words + length (entryWords reply)
+  pub last : f .extra .words ≤ length ws
+  pub within : f .extra .words ≤ room
   pub options : f .options ≡ t .options
   pub n : f .shape .n ≡ t .shape .n
   pub m : f .shape .m ≡ t .shape .m
   pub shape : shapeHeld (f .shape) (length b) ≡ true
   pub sound : Sound (f .shape) (length b)
   pub settled : Settled (t .search) (t .trials) → Settled (f .search) (f .trials)
-  pub x0 : view b (t .shape .n) X0 ≡ view a (t .shape .n) X0
+  pub saved : Saved (view a (t .shape .n)) (view b (t .shape .n))
   pub terms : machineOf f b .terms ≡ machineOf t a .terms
 
 -- the definition refuses the entry too, where the fit passes the test
 pub record RefusedBy (t : Fit) (a : List Float) (ws : List ℕ) (room c : ℕ) : Type 0 where
   pub code : (c ≡ 17) ⊎ ((c ≡ 12) × (room < length ws))
-  pub next : isReady t (length a) ≡ true → (rs : List M.Reply) → t .words ≡ length (logWords rs)
-      → nextEntry room (drop (t .words) ws) rs (machineOf t a) ≡ Entries.refusedAt c
+  pub next : isReady t (length a) ≡ true → (rs : List M.Reply) → t .extra .words ≡ length (logWords rs)
+      → nextEntry room (drop (t .extra .words) ws) rs (machineOf t a) ≡ Entries.refusedAt c
 
 abbrev pub NextIs : Fit → List Float → List ℕ → ℕ → Replayed → List Float → Type 0
 NextIs t a ws room (Done f) b = Took t a ws room f b
@@ -121,17 +113,17 @@ NextIs t a ws room (Refused c) b = RefusedBy t a ws room c
 -- f with the area b is t with the area a taken through some entries, none past the limit
 pub data Run (ws : List ℕ) (limit room : ℕ) (t : Fit) (a : List Float) : Fit → List Float → Type 0 where
   begun : Run ws limit room t a t a
-  taken : (f : Fit) (b : List Float) (g : Fit) (d : List Float) → Run ws limit room t a f b → f .entries < limit → length d ≡ length b → Took f b ws room g d
+  taken : (f : Fit) (b : List Float) (g : Fit) (d : List Float) → Run ws limit room t a f b → f .extra .entries < limit → length d ≡ length b → Took f b ws room g d
       → Run ws limit room t a g d
 
 -- another number of entries kept, and of their words, at a probe
 abbrev pub logged : ℕ → ℕ → Probing → Probing
-logged entries words q = record { i = q .i; side = q .side; right = q .right; counters = q .counters; entries = entries; words = words }
+logged entries words q = record { i = q .i; side = q .side; right = q .right; counters = q .counters; extra = record { entries = entries; words = words } }
 
 -- the entry at the probe q of t is left, or it is taken and the next probe is asked, for each place alike
 abbrev pub TakenBy : Fit → Probing → List Float → List ℕ → ℕ → ℕ → Turned → List Float → Type 0
 TakenBy t q a ws limit room Stays b = b ≡ a
-TakenBy t q a ws limit room (On r) b = (r .i < t .shape .n) × (q .entries < limit) × ((w : Place) → Took (probing w q t) a ws room (probing w r t) b)
+TakenBy t q a ws limit room (On r) b = (r .i < t .shape .n) × (q .extra .entries < limit) × ((w : Place) → Took (probing w q t) a ws room (probing w r t) b)
 
 pub record TakenIs (t : Fit) (q : Probing) (a : List Float) (ws : List ℕ) (limit room : ℕ) (r : Turned) (b : List Float) : Type 0 where
   pub is : TakenBy t q a ws limit room r b

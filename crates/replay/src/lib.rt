@@ -6,9 +6,10 @@ ghost use Prim.Native.Nat.{_+_, _*_, _≤_, _<_};
 ghost use lib.Dec.{ltb};
 ghost use lib.ListN.{length, getD, take, drop};
 ghost use Rattle.definition.specs.Number.{toFloat};
+ghost use Rattle.definition.specs.Problem.{mostCoordinates};
 ghost use Rattle.definition.specs.Driver.{answer};
 ghost use Rattle.definition.specs.Record.{wordsOf};
-ghost use Rattle.area.specs.Area.{view, upd, TrialGradient};
+ghost use Rattle.area.specs.Area.{view, upd, firstPair, TrialGradient};
 ghost use Rattle.fit.specs.State.{Steps};
 ghost use Rattle.compact.specs.State.{Sound};
 ghost use Rattle.replies.specs.Runs.{probing};
@@ -19,6 +20,7 @@ use driver::Reply;
 use fit::Fit;
 use fit::Phase;
 use fit::Place;
+use problem::Checked;
 use replies::Probing;
 use replies::Turned;
 
@@ -59,7 +61,7 @@ fn source_word(s: Source, log: &[u64], input: &[u8], i: usize) -> u64
 
 // n words from `from` on, as the trial's gradient.
 pub fn store_words(area: &mut [f64], n: usize, words: &[u64], from: usize)
-    requires { ⌜ (16 * n ≤ length (now area)) × (from + n ≤ length (now words)) ⌝ }
+    requires { ⌜ (firstPair * n ≤ length (now area)) × (from + n ≤ length (now words)) ⌝ }
     ensures { λ _. ⌜ view (now (area .exit)) n ≡ upd (view (now (area .entry)) n) TrialGradient (map toFloat (take n (drop from (now (words .entry))))) ⌝ }
 {
     let mut i = 0;
@@ -71,7 +73,7 @@ pub fn store_words(area: &mut [f64], n: usize, words: &[u64], from: usize)
 
 // The same from a record's bytes.
 fn store_bytes(area: &mut [f64], n: usize, input: &[u8], at: usize)
-    requires { ⌜ (16 * n ≤ length (now area)) × (at + 8 * n ≤ length (now input)) ⌝ }
+    requires { ⌜ (firstPair * n ≤ length (now area)) × (at + 8 * n ≤ length (now input)) ⌝ }
     ensures { λ _. ⌜ view (now (area .exit)) n ≡ upd (view (now (area .entry)) n) TrialGradient (map toFloat (wordsOf n (drop at (now (input .entry))))) ⌝ }
 {
     let mut i = 0;
@@ -85,7 +87,7 @@ fn store_bytes(area: &mut [f64], n: usize, input: &[u8], at: usize)
 }
 
 fn store_gradient(area: &mut [f64], n: usize, s: Source, log: &[u64], input: &[u8], from: usize)
-    requires { ⌜ (16 * n ≤ length (now area)) × Within s (now log) (now input) × (from + n ≤ s .words) ⌝ }
+    requires { ⌜ (firstPair * n ≤ length (now area)) × Within s (now log) (now input) × (from + n ≤ s .words) ⌝ }
     ensures { λ _. ⌜ view (now (area .exit)) n ≡ upd (view (now (area .entry)) n) TrialGradient (map toFloat (take n (drop from (sourceWords s (now (log .entry)) (now (input .entry)))))) ⌝ }
 {
     if s.recorded {
@@ -118,7 +120,7 @@ fn reply_of(kind: u64) -> Reply
 
 // The entry at word `at`: bad where it is unknown or cut.
 fn entry_at(n: usize, s: Source, log: &[u64], input: &[u8], at: usize) -> Entry
-    requires { ⌜ Within s (now log) (now input) × (at < s .words) × (n ≤ 64) ⌝ }
+    requires { ⌜ Within s (now log) (now input) × (at < s .words) × (n ≤ mostCoordinates) ⌝ }
     ensures { λ r. ⌜ EntryIs n (sourceWords s (now (log .entry)) (now (input .entry))) at r ⌝ }
 {
     let kind = source_word(s, log, input, at);
@@ -137,19 +139,19 @@ fn entry_at(n: usize, s: Source, log: &[u64], input: &[u8], at: usize) -> Entry
 
 // 0 where the reply is due and has room in a log of `room` words, else the refusal.
 fn admitted(t: Fit, size: usize, r: Reply, length: usize, room: usize) -> usize
-    ensures { λ c. ⌜ c ≡ admission (isReady t size && isDue t r) (ltb room (t .words + length)) ⌝ }
+    ensures { λ c. ⌜ c ≡ admission (isReady t size && isDue t r) (ltb room (t .extra .words + length)) ⌝ }
 {
     if !driver::is_ready(t, size) {
         return BAD_ENTRY;
     }
-    let p = t.phase;
-    if !driver::suits(question::kind_of(p), r) {
+    let due = driver::check_due(t, r);
+    let Checked::Passed = due else {
         return BAD_ENTRY;
-    }
-    if room < t.words {
+    };
+    if room < t.extra.words {
         return NO_ROOM;
     }
-    if room - t.words < length {
+    if room - t.extra.words < length {
         return NO_ROOM;
     }
     0
@@ -157,24 +159,26 @@ fn admitted(t: Fit, size: usize, r: Reply, length: usize, room: usize) -> usize
 
 // One more entry is kept.
 pub fn counted(t: Fit, length: usize) -> Fit
-    requires { ⌜ (t .entries < mostWords) × (t .words < mostWords) × (length < mostWords) ⌝ }
-    ensures { λ r. ⌜ r ≡ withLog (t .entries + 1) (t .words + length) t ⌝ }
+    requires { ⌜ (t .extra .entries < mostWords) × (t .extra .words < mostWords) × (length < mostWords) ⌝ }
+    ensures { λ r. ⌜ r ≡ withLog (t .extra .entries + 1) (t .extra .words + length) t ⌝ }
 {
+    let mut extra = t.extra;
+    extra.entries = t.extra.entries + 1;
+    extra.words = t.extra.words + length;
     let mut f = t;
-    f.entries = t.entries + 1;
-    f.words = t.words + length;
+    f.extra = extra;
     f
 }
 
 // The fit advanced by an entry that is due.
 fn take_entry(t: Fit, area: &mut [f64], s: Source, log: &[u64], input: &[u8], r: Reply) -> Fit
-    requires { ⌜ Within s (now log) (now input) × (isReady t (length (now area)) ≡ true) × (isDue t r ≡ true) × (t .words + sizeOf r (t .shape .n) ≤ s .words) ⌝ }
-    ensures { λ f. ⌜ Steps (λ m. answer m (replied r (gradientAt (t .shape .n) (sourceWords s (now (log .entry)) (now (input .entry))) (t .words)))) t (now (area .entry)) f (now (area .exit)) ⌝ }
+    requires { ⌜ Within s (now log) (now input) × (isReady t (length (now area)) ≡ true) × (isDue t r ≡ true) × (t .extra .words + sizeOf r (t .shape .n) ≤ s .words) ⌝ }
+    ensures { λ f. ⌜ Steps (λ m. answer m (replied r (gradientAt (t .shape .n) (sourceWords s (now (log .entry)) (now (input .entry))) (t .extra .words)))) t (now (area .entry)) f (now (area .exit)) ⌝ }
 {
     let Reply::Gradient = r else {
         return driver::advance(t, area, r);
     };
-    store_gradient(area, t.shape.n, s, log, input, t.words + 1);
+    store_gradient(area, t.shape.n, s, log, input, t.extra.words + 1);
     driver::advance(t, area, r)
 }
 
@@ -187,10 +191,10 @@ fn replay_entry(
     input: &[u8],
     room: usize,
 ) -> Replayed
-    requires { ⌜ Within s (now log) (now input) × (t .words < s .words) × (t .shape .n ≤ 64) ⌝ }
+    requires { ⌜ Within s (now log) (now input) × (t .extra .words < s .words) × (t .shape .n ≤ mostCoordinates) ⌝ }
     ensures { λ r. ⌜ NextIs t (now (area .entry)) (sourceWords s (now (log .entry)) (now (input .entry))) room r (now (area .exit)) ⌝ }
 {
-    let entry = entry_at(t.shape.n, s, log, input, t.words);
+    let entry = entry_at(t.shape.n, s, log, input, t.extra.words);
     let Entry::Is(r, length) = entry else {
         return Replayed::Refused(BAD_ENTRY);
     };
@@ -215,32 +219,34 @@ fn probe_entry(
     limit: usize,
     room: usize,
 ) -> Turned
-    requires { ⌜ Within s (now log) (now input) × (q .words < s .words) × (t .shape .n ≤ 64) × Sound (t .shape) (length (now area)) × (shapeHeld (t .shape) (length (now area)) ≡ true) × (q .i < t .shape .n) ⌝ }
+    requires { ⌜ Within s (now log) (now input) × (q .extra .words < s .words) × (t .shape .n ≤ mostCoordinates) × Sound (t .shape) (length (now area)) × (shapeHeld (t .shape) (length (now area)) ≡ true) × (q .i < t .shape .n) ⌝ }
     ensures { λ r. ⌜ TakenIs t q (now (area .entry)) (sourceWords s (now (log .entry)) (now (input .entry))) limit room r (now (area .exit)) ⌝ }
 {
-    let entry = entry_at(t.shape.n, s, log, input, q.words);
+    let entry = entry_at(t.shape.n, s, log, input, q.extra.words);
     let Entry::Is(r, length) = entry else {
         return Turned::Stays;
     };
     let Reply::Value(v) = r else {
         return Turned::Stays;
     };
-    if limit <= q.entries {
+    if limit <= q.extra.entries {
         return Turned::Stays;
     }
-    if room < q.words {
+    if room < q.extra.words {
         return Turned::Stays;
     }
-    if room - q.words < length {
+    if room - q.extra.words < length {
         return Turned::Stays;
     }
     let next = replies::next_probe(t, q, float::word_to_float(v), area);
     let Turned::On(p) = next else {
         return Turned::Stays;
     };
+    let mut extra = p.extra;
+    extra.entries = q.extra.entries + 1;
+    extra.words = q.extra.words + length;
     let mut f = p;
-    f.entries = q.entries + 1;
-    f.words = q.words + length;
+    f.extra = extra;
     Turned::On(f)
 }
 
@@ -256,11 +262,11 @@ fn run_probes(
     limit: usize,
     room: usize,
 ) -> Fit
-    requires { ⌜ Within s (now log) (now input) × (t .shape .n ≤ 64) × Sound (t .shape) (length (now area)) × (shapeHeld (t .shape) (length (now area)) ≡ true) × (first .i < t .shape .n) × (t ≡ probing w first t) ⌝ }
+    requires { ⌜ Within s (now log) (now input) × (t .shape .n ≤ mostCoordinates) × Sound (t .shape) (length (now area)) × (shapeHeld (t .shape) (length (now area)) ≡ true) × (first .i < t .shape .n) × (t ≡ probing w first t) ⌝ }
     ensures { λ r. ⌜ Run (sourceWords s (now (log .entry)) (now (input .entry))) limit room t (now (area .entry)) r (now (area .exit)) ⌝ }
 {
     let mut q = first;
-    while q.words < s.words {
+    while q.extra.words < s.words {
         let next = probe_entry(t, q, area, s, log, input, limit, room);
         let Turned::On(p) = next else {
             return replies::with_probe(t, w, q);
@@ -280,7 +286,7 @@ fn after_probes(
     limit: usize,
     room: usize,
 ) -> Fit
-    requires { ⌜ Within s (now log) (now input) × (t .shape .n ≤ 64) × Sound (t .shape) (length (now area)) × (shapeHeld (t .shape) (length (now area)) ≡ true) ⌝ }
+    requires { ⌜ Within s (now log) (now input) × (t .shape .n ≤ mostCoordinates) × Sound (t .shape) (length (now area)) × (shapeHeld (t .shape) (length (now area)) ≡ true) ⌝ }
     ensures { λ r. ⌜ Run (sourceWords s (now (log .entry)) (now (input .entry))) limit room t (now (area .entry)) r (now (area .exit)) ⌝ }
 {
     let phase = t.phase;
@@ -291,13 +297,13 @@ fn after_probes(
         return t;
     }
     let counters = t.counters;
+    let extra = t.extra;
     let q = Probing {
         i: i,
         side: side,
         right: t.right,
         counters: counters,
-        entries: t.entries,
-        words: t.words,
+        extra: extra,
     };
     run_probes(t, w, q, area, s, log, input, limit, room)
 }
@@ -312,12 +318,12 @@ pub fn replay(
     limit: usize,
     room: usize,
 ) -> Replayed
-    requires { ⌜ Within s (now log) (now input) × (isReady t (length (now area)) ≡ true) × (t .entries ≡ 0) × (t .words ≡ 0) ⌝ }
+    requires { ⌜ Within s (now log) (now input) × (isReady t (length (now area)) ≡ true) × (t .extra .entries ≡ 0) × (t .extra .words ≡ 0) ⌝ }
     ensures { λ r. ⌜ Replays t (now (area .entry)) (sourceWords s (now (log .entry)) (now (input .entry))) limit room r (now (area .exit)) ⌝ }
 {
     let mut f = t;
-    while f.words < s.words {
-        if limit <= f.entries {
+    while f.extra.words < s.words {
+        if limit <= f.extra.entries {
             return Replayed::Done(f);
         }
         let next = replay_entry(f, area, s, log, input, room);

@@ -14,8 +14,8 @@ use Rattle.definition.specs.Counters.{Termination, iterationsSpent}
 use Rattle.definition.specs.Machine.{Place, Side, Machine, ending}
 use Rattle.definition.specs.Driver.{gradientSmall, decreaseSmall, iterate, complete, withComponent, byProbes, probeFrom, probedTo, probed}
 use Rattle.definition.specs.Driver.{onNotSupplied, onProbe, onGoOn}
-use Rattle.area.specs.Area.{Vecs, view, putWord, fillOf, rowwise, X0, Trial, TrialGradient}
-use Rattle.area.proofs.Laws.{word-view}
+use Rattle.area.specs.Area.{Vecs, view, upd, putWord, fillOf, rowwise, firstPair, Saved, Trial, TrialGradient}
+use Rattle.area.proofs.Laws.{word-view, saved-refl, saved-upd}
 use Rattle.fit.specs.declared.Fit.{Fit}
 use Rattle.fit.specs.State.{machine, machineOf, Turns, Steps}
 use Rattle.fit.proofs.Laws.{pairs-kept, still, steps-as, steps-at}
@@ -36,13 +36,17 @@ all-probed n w j m l = let q : n - j ≡ 0 = omega arith in rw q
 
 -- ---- component j of the trial's gradient is stored
 
+saved-gradient : {a b : Vecs} (g : List Float) → Saved a b → Saved a (upd b TrialGradient g)
+saved-gradient g h = saved-upd TrialGradient g (omega arith) (λ e. omega arith) h
+
 pub put-component : (t : Fit) (v : Vecs) (j : ℕ) (x : Float) → machine t (putWord v TrialGradient j x) ≡ withComponent j x (machine t v)
-put-component t v j x = let l : TrialGradient < 16 = omega arith in rw pairs-kept
+put-component t v j x = let l : TrialGradient < firstPair = omega arith in rw pairs-kept
 
 pub component-put : {F G : Machine → Machine} {t r : Fit} {a b d : List Float} (j : ℕ) (x : Float)
     → Steps F t b r d → view b (t .shape .n) ≡ putWord (view a (t .shape .n)) TrialGradient j x
     → F (withComponent j x (machineOf t a)) ≡ G (machineOf t a) → Steps G t a r d
-component-put {F = F} {t = t} {a = a} j x h e g = steps-at h e refl (ap F (put-component t (view a (t .shape .n)) j x) ∙ g)
+component-put {F = F} {t = t} {a = a} j x h e g =
+    steps-at h e (saved-gradient _ saved-refl) (ap F (put-component t (view a (t .shape .n)) j x) ∙ g)
 
 -- the component is known as another float
 pub component-as : {G : Machine → Machine} {t r : Fit} {a b : List Float} (w : Place) (i : ℕ) {x y : Float}
@@ -62,20 +66,20 @@ pub gradient-put : {t r : Fit} {a b d : List Float} (w : Place)
     → Steps (onNotSupplied w) t a r d
 unfolding onNotSupplied fillOf rowwise
 gradient-put {t} w h e =
-    let l : TrialGradient < 16 = omega arith in
+    let l : TrialGradient < firstPair = omega arith in
     let q : t .shape .n - 0 ≡ t .shape .n = omega arith in
-    steps-at h e refl (rw (q, pairs-kept))
+    steps-at h e (saved-gradient _ saved-refl) (rw (q, pairs-kept))
 
 -- ---- a loop that passes the coordinates where nothing is probed: from i to j the area has become b
 
 pub record Passed (t : Fit) (w : Place) (i : ℕ) (a b : List Float) (j : ℕ) : Type 0 where
   pub upto : j ≤ t .shape .n
   pub long : length b ≡ length a
-  pub x0 : view b (t .shape .n) X0 ≡ view a (t .shape .n) X0
+  pub saved : Saved (view a (t .shape .n)) (view b (t .shape .n))
   pub is : probeFrom (t .shape .n - j) w j (machineOf t b) ≡ probeFrom (t .shape .n - i) w i (machineOf t a)
 
 pub passed-none : {t : Fit} {w : Place} {i : ℕ} {a : List Float} → i ≤ t .shape .n → Passed t w i a a i
-passed-none h = record { upto = h; long = refl; x0 = refl; is = refl }
+passed-none h = record { upto = h; long = refl; saved = saved-refl; is = refl }
 
 pub passed-more : {t : Fit} {w : Place} {i : ℕ} {a b d : List Float} {j : ℕ} → Passed t w i a b j → j < t .shape .n → length d ≡ length b
     → view d (t .shape .n) ≡ putWord (view b (t .shape .n)) TrialGradient j zero64
@@ -83,7 +87,7 @@ pub passed-more : {t : Fit} {w : Place} {i : ℕ} {a b d : List Float} {j : ℕ}
 passed-more {t} {w} {i} {a} {b} {d} {j} r h l e q = record {
   upto = omega arith;
   long = l ∙ r .long;
-  x0 = ap (λ (v : Vecs). v X0) e ∙ r .x0;
+  saved = rw e (saved-gradient _ (r .saved));
   is =
       ap (λ (v : Vecs). probeFrom (t .shape .n - (j + 1)) w (j + 1) (machine t v)) e
       ∙ ap (probeFrom (t .shape .n - (j + 1)) w (j + 1)) (put-component t (view b (t .shape .n)) j zero64)
@@ -97,7 +101,7 @@ passed-ready p r = rw (p .long) r
 -- what is done at j is done at i
 pub passed-then : {F : Machine → Machine} {t r : Fit} {w : Place} {i : ℕ} {a b d : List Float} {j : ℕ} → Passed t w i a b j
     → Steps F t b r d → F (machineOf t b) ≡ probeFrom (t .shape .n - j) w j (machineOf t b) → Steps (probeFrom (t .shape .n - i) w i) t a r d
-passed-then p h e = steps-at h refl (p .x0) (e ∙ p .is)
+passed-then p h e = steps-at h refl (p .saved) (e ∙ p .is)
 
 pub passed-turned : {F : Machine → Machine} {t r : Fit} {w : Place} {i : ℕ} {a b : List Float} {j : ℕ} → Passed t w i a b j
     → Turns F t r → F (machineOf t b) ≡ probeFrom (t .shape .n - j) w j (machineOf t b) → Steps (probeFrom (t .shape .n - i) w i) t a r b

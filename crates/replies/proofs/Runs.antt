@@ -34,7 +34,7 @@ use Rattle.replies.proofs.Laws.{by-probes, component-put, finite-probed
 
 -- the probe asked after q, with the counters k
 abbrev pub asking : Probing → Counters → ℕ → Side → Float → Probing
-asking q k i side right = record { i = i; side = side; right = right; counters = k; entries = q .entries; words = q .words }
+asking q k i side right = record { i = i; side = side; right = right; counters = k; extra = q .extra }
 
 -- a charge that is made asks it
 pub asked-on : (q : Probing) (t : Fit) (k : Counters) (i : ℕ) (side : Side) (right : Float) → i < t .shape .n
@@ -48,7 +48,7 @@ asked-on q t k i side right h e a = record {
         still {F = F} {G = F}
         (record {
           shape = refl;
-          kept = record { options = refl; entries = refl; words = refl; settled = λ s. s };
+          kept = record { options = refl; extra = refl; settled = λ s. s };
           is = λ v. charge-asks (M.Phase.probe (placeOf w) i (sideOf side)) (withRight right (machine (probing w q t) v)) (countersOf k) e;
         })
         refl,

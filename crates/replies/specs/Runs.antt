@@ -30,8 +30,7 @@ probing w q t = record {
   right = q .right;
   before = t .before;
   theta = t .theta;
-  entries = q .entries;
-  words = q .words;
+  extra = q .extra;
 }
 
 -- the probe of coordinate i on a side is asked, with the value right of it

@@ -15,14 +15,12 @@ ghost use Rattle.replies.specs.Runs.{probing, asks, TurnIs, unprobed, fi
 use counters::Charge;
 use counters::Counters;
 use counters::Termination;
+use fit::Extra;
 use fit::Fit;
 use fit::Phase;
 use fit::Place;
 use fit::Side;
 use gradient::Probes;
-
-// Room for another count.
-const MOST_DRAWN: usize = 0x4000_0000_0000_0000;
 
 // Coordinate i and those after it: 0 where nothing is probed, up to the first that is.
 fn probe_from(t: Fit, w: Place, i: usize, area: &mut [f64]) -> Fit
@@ -118,8 +116,7 @@ pub struct Probing {
     pub side: Side,
     pub right: f64,
     pub counters: Counters,
-    pub entries: usize,
-    pub words: usize,
+    pub extra: Extra,
 }
 
 // A reply that leads from probe to probe, or one that is left to be taken in full.
@@ -134,11 +131,11 @@ pub fn with_probe(t: Fit, w: Place, q: Probing) -> Fit
 {
     let side = q.side;
     let k = q.counters;
+    let extra = q.extra;
     let mut f = fit::with_phase(t, Phase::Probe(w, q.i, side));
     f.counters = k;
     f.right = q.right;
-    f.entries = q.entries;
-    f.words = q.words;
+    f.extra = extra;
     f
 }
 
@@ -172,20 +169,17 @@ fn asked(t: Fit, q: Probing, i: usize, side: Side, right: f64) -> Turned
 {
     let limits = t.limits;
     let counters = q.counters;
-    if MOST_DRAWN <= counters.drawn {
-        return Turned::Stays;
-    }
     let charge = counters::value_charged(limits, counters);
     let Charge::Charged(k) = charge else {
         return Turned::Stays;
     };
+    let extra = q.extra;
     Turned::On(Probing {
         i: i,
         side: side,
         right: right,
         counters: k,
-        entries: q.entries,
-        words: q.words,
+        extra: extra,
     })
 }
 

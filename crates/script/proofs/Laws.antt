@@ -15,17 +15,18 @@ use Rattle.definition.specs.Problem as P
 use Rattle.definition.specs.Problem.{validate, _then_}
 use Rattle.definition.specs.Machine as M
 use Rattle.definition.specs.Record.{Reading, checkArea, readRecord}
+use Rattle.definition.specs.Book.{Book}
 use Rattle.definition.specs.History as H
-use Rattle.definition.specs.History.{Call, History, restoredAnswer, historyStep, historyAfter, historyAnswers}
+use Rattle.definition.specs.History.{Call, History, refusedBy, restoredAnswer, historyAfter, historyAnswers}
 use Rattle.problem.specs.Setups.{refusalOf}
 use Rattle.fit.specs.declared.Fit.{Fit}
 use Rattle.driver.specs.declared.Reply.{Reply}
 use Rattle.lbfgsb.specs.Words.{Words, words, lengths, Holds}
+use Rattle.definition.proofs.Histories.{isRead}
 use Rattle.lbfgsb.specs.Bridge.{replied, next, kept, asked, told, entered, saved}
-use Rattle.lbfgsb.specs.Did.{Did, Opening, Stepped, Read, Counted}
-use Rattle.lbfgsb.specs.Table.{refusedBy}
+use Rattle.lbfgsb.specs.Did.{Opening, Stepped, Read, Counted}
 use Rattle.lbfgsb.specs.Chain.{Chain, Opens, Allowed}
-use Rattle.lbfgsb.proofs.Lists.{stepped, sized, from, after, every, zeros-blank}
+use Rattle.lbfgsb.proofs.Lists.{stepped, read-did, sized, from, after, every, zeros-blank}
 use Rattle.lbfgsb.specs.declared.Answer.{Answer}
 use Rattle.lbfgsb.specs.declared.Answer.the-variants as A
 use Rattle.lbfgsb.specs.declared.Asked.{Asked}
@@ -93,15 +94,14 @@ kept-shows c c' f w a' l' z r p fo b q e d =
 -- a call that leaves them
 pub read-shows :
     {X : Type 0} (c c' : Call) (w : Words) (o : Option H.Answer) (o' : H.Answer) (out out' : List X) → c ≡ c' → o ≡ some o'
-    → ((h : History) → historyStep (lengths w) h c' ≡ h) → Opening c' w w o' → Read c' w o' out out' → Shows c w w o
-read-shows c c' w o o' out out' q e stays p r =
-    let d : Did c' w w o' = record { sized = refl; holds = λ h x. subst (λ (y : History). Holds w y) (sym (stays h)) x; said = r .said } in
-    record { answer = o'; is = e; step = step-as c c' w w o' q (record { did = d; opening = p }) }
+    → isRead c' ≡ true → Opening c' w w o' → Read c' w o' out out' → Shows c w w o
+read-shows c c' w o o' out out' q e reads p r =
+    record { answer = o'; is = e; step = step-as c c' w w o' q (record { did = read-did reads (r .said); opening = p }) }
 
 pub count-shows : (c : Call) (w : Words) (k : ℕ) → c ≡ Call.replies → Counted k w → Shows c w w (some (H.Answer.counted k))
 count-shows c w k q r =
-    let d : Did Call.replies w w (H.Answer.counted k) = record { sized = refl; holds = λ h x. x; said = r .said } in
-    shows-as c Call.replies w w (some (H.Answer.counted k)) q (record { answer = H.Answer.counted k; is = refl; step = record { did = d; opening = tt } })
+    let step : Stepped Call.replies w w (H.Answer.counted k) = record { did = read-did refl (r .said); opening = tt } in
+    shows-as c Call.replies w w (some (H.Answer.counted k)) q (record { answer = H.Answer.counted k; is = refl; step = step })
 
 asked-go : (q : Asked) (n : ℕ) (p : List Float) (f b : List ℕ) → shown (askedAs q) n p f b ≡ some (asked q n p)
 asked-go Q.Nothing n p f b = refl
@@ -259,7 +259,7 @@ start-allowed {s} {cs} {w = w} (Chain.call {os = os} d ds) e =
     (Allowed.opens Opens.started)
 
 pub restore-allowed :
-    {bs : List ℕ} {s : P.Setup} {rs : List M.Reply} {cs : List Call} {os : List H.Answer} {w w' : Words} → Chain Stepped w (Call.restore bs ∷ cs) os w'
-    → readRecord (lengths w) bs ≡ Reading.accepted s rs → Allowed w (Call.restore bs ∷ cs) os
+    {bs : List ℕ} {b : Book} {cs : List Call} {os : List H.Answer} {w w' : Words} → Chain Stepped w (Call.restore bs ∷ cs) os w'
+    → readRecord (lengths w) bs ≡ Reading.accepted b → Allowed w (Call.restore bs ∷ cs) os
 restore-allowed {bs} {cs = cs} {w = w} (Chain.call {os = os} d ds) e =
     subst (λ (o : H.Answer). Allowed w (Call.restore bs ∷ cs) (o ∷ os)) (sym (d .opening .always ∙ ap restoredAnswer e)) (Allowed.opens Opens.restored)

@@ -4,6 +4,7 @@
 // Of a refusal that is its number and both details, so that these stand in the expected output as document 01 has them: 14 and 3 (expected, found).
 use compact::Shape;
 use counters::Counters;
+use fit::Extra;
 use fit::Fit;
 use fit::Phase;
 use libc::STDOUT_FILENO;
@@ -97,12 +98,15 @@ fn junk() -> Fit {
         nit: 7,
         nfev: 7,
         njev: 7,
-        drawn: 7,
     };
     let trials = Trials {
         count: 7,
         face: true,
         bracketed: true,
+    };
+    let extra = Extra {
+        entries: 7,
+        words: 7,
     };
     Fit {
         shape: shape,
@@ -117,8 +121,7 @@ fn junk() -> Fit {
         right: 7.0,
         before: 7.0,
         theta: 7.0,
-        entries: 7,
-        words: 7,
+        extra: extra,
     }
 }
 

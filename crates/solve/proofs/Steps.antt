@@ -13,9 +13,9 @@ use lib.Ieee as Ieee
 use lib.Ieee.{Float, nan}
 use lib.Ieee.Scale.{finite}
 use Rattle.definition.specs.Number.{minus, times, over, zero64}
-use Rattle.definition.specs.Vector.{foldTo, word, allFinite, finiteOnly}
+use Rattle.definition.specs.Vector.{foldTo, word, allFinite, _andThen_, finiteOnly}
 use Rattle.definition.specs.Solve.{Matrix, System, system, row, entry, put, scaleOf, pivotOf, swapRows, swapWords, lessRow, lessPivot, eliminated}
-use Rattle.definition.specs.Solve.{pivots, onColumn, column, triangular, backward, solvedFrom, solve}
+use Rattle.definition.specs.Solve.{pivots, onColumn, column, triangular, backward, solve}
 use Rattle.area.specs.Area.{given}
 use Rattle.area.proofs.Laws.{Looped, looped-none, looped-more, looped-done, looped-stays}
 use Rattle.solve.specs.Answers.{systemIf}
@@ -172,34 +172,35 @@ factors {n} {a} {s} e h r = record {
   is = λ b. r .is b ∙ rw (← e, h);
 }
 
-tested : (n : ℕ) (f z g : Bool) (s : Option System)
-    → cond g (solvedFrom n (cond (f && z) s none)) none ≡ cond (f && z && g) (solvedFrom n s) none
-tested n true true true s = refl
-tested n true true false s = refl
-tested n true false true s = refl
-tested n true false false s = refl
-tested n false z true s = refl
-tested n false z false s = refl
+tested : (k : System → Option (List Float)) (f z g : Bool) (s : Option System)
+    → cond g (cond (f && z) s none andThen k) none ≡ cond (f && z && g) (s andThen k) none
+tested k true true true s = refl
+tested k true true false s = refl
+tested k true false true s = refl
+tested k true false false s = refl
+tested k false z true s = refl
+tested k false z false s = refl
 
 pub factors-solve : {n : ℕ} {a : Matrix} {ok : Bool} {t f : Matrix} {p : List ℕ} (b : List Float) → Factored n a ok t f p → solvedWith n ok t f p b ≡ solve n a b
 unfolding solvedWith solve
 factors-solve {n} {a} {ok} {t} {f} {p} b r =
     let s = scaleOf n a in
-    ap (λ (o : Option System). cond (allFinite n b) (solvedFrom n o) none) (r .is b)
-    ∙ tested n (finite s) (not (Ieee.eq s zero64)) (allFinite n b) (triangular n s (system a b))
+    let back : System → Option (List Float) = λ s. finiteOnly n (backward n s) in
+    ap (λ (o : Option System). cond (allFinite n b) (o andThen back) none) (r .is b)
+    ∙ tested back (finite s) (not (Ieee.eq s zero64)) (allFinite n b) (triangular n s (system a b))
 
 checked : (x : List Float) (ok : Bool) {t : Bool} → ok ≡ t → given ok x ≡ cond t (some x) none
 checked x true e = rw (← e)
 checked x false e = rw (← e)
 
-neither : (n : ℕ) (g : Bool) → none ≡ cond g (solvedFrom n none) none
-neither n true = refl
-neither n false = refl
+neither : {A : Type 0} (g : Bool) → _≡_ {A = Option A} none (cond g none none)
+neither true = refl
+neither false = refl
 
 module _ (n : ℕ) (ok : Bool) (t f : Matrix) (p : List ℕ) (b : List Float) where
   pub not-factored : ok ≡ false → none ≡ solvedWith n ok t f p b
   unfolding solvedWith
-  not-factored h = rw h (neither n (allFinite n b))
+  not-factored h = rw h (neither (allFinite n b))
 
   pub not-finite : allFinite n b ≡ false → none ≡ solvedWith n ok t f p b
   unfolding solvedWith

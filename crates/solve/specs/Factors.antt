@@ -9,8 +9,8 @@ use lib.Ieee as Ieee
 use lib.Ieee.{Float}
 use lib.Ieee.Scale.{finite}
 use Rattle.definition.specs.Number.{minus, times, zero64}
-use Rattle.definition.specs.Vector.{foldTo, word, allFinite}
-use Rattle.definition.specs.Solve.{Matrix, System, row, system, swapWords, scaleOf, eliminated, column, triangular, solvedFrom}
+use Rattle.definition.specs.Vector.{foldTo, word, allFinite, _andThen_, finiteOnly}
+use Rattle.definition.specs.Solve.{Matrix, System, row, system, swapWords, scaleOf, eliminated, column, triangular, backward}
 use Rattle.solve.specs.Answers.{systemIf}
 
 -- ---- the right side
@@ -55,4 +55,4 @@ pub record Factored (n : ℕ) (a : Matrix) (ok : Bool) (t f : Matrix) (p : List 
 
 -- the solution by these
 unfoldable pub solvedWith : ℕ → Bool → Matrix → Matrix → List ℕ → List Float → Option (List Float)
-solvedWith n ok t f p b = cond (allFinite n b) (solvedFrom n (systemIf ok (system t (forwardTo n n f p b)))) none
+solvedWith n ok t f p b = cond (allFinite n b) (systemIf ok (system t (forwardTo n n f p b)) andThen λ s. finiteOnly n (backward n s)) none

@@ -9,14 +9,17 @@ use lib.ListN.{length, take, drop}
 use lib.Ieee as Ieee
 use lib.Ieee.{Float}
 use Rattle.definition.specs.Number.{minus, zero64}
-use Rattle.definition.specs.Vector.{tab, word, dot, difference}
-use Rattle.definition.specs.Driver.{bothEnds}
-use Rattle.area.specs.Area.{Vecs, upd, wordsAt, rowwise, differenceOf, X, G, Direction, Cauchy, Target}
+use Rattle.definition.specs.Vector.{tab, word, dot, difference, _andThen_}
+use Rattle.definition.specs.Driver.{Ends}
+use Rattle.area.specs.Area.{Vecs, upd, wordsAt, rowwise, differenceOf, firstPair, X, G, Direction, Cauchy, Target}
 use Rattle.area.proofs.Laws.{part-lent, length-view, word-view}
 use Rattle.compact.proofs.Laws.{upd-twice}
 use Rattle.subspace.specs.State.{headIn, Minimizes, endsIn, headed}
 
 -- both ends, where there is a minimum
+abbrev pub bothEnds : List Float → Option (List Float) → Option Ends
+bothEnds p o = o andThen λ q. some (record { cauchy = p; target = q })
+
 pub both-ends : {F : Option (List Float)} {a b : Vecs} {ok : Bool} → Minimizes F a ok b → cond ok (some (endsIn b)) none ≡ bothEnds (a Cauchy) F
 both-ends {a = a} {b = b} {ok = true} m = (λ k. some (record { cauchy = m .cauchy k; target = b Target })) ∙ ap (bothEnds (a Cauchy)) (m .is)
 both-ends {a = a} {ok = false} m = ap (bothEnds (a Cauchy)) (m .is)
@@ -25,7 +28,7 @@ both-ends {a = a} {ok = false} m = ap (bothEnds (a Cauchy)) (m .is)
 abbrev lent : List Float → ℕ → ℕ → List Float
 lent a n p = take (p * n + n - p * n) (drop (p * n) a)
 
-pub end-long : (t : Bool) (a : List Float) (n : ℕ) (e : List Float) → 16 * n ≤ length a → e ≡ cond t (lent a n Cauchy) (lent a n Target) → length e ≡ n
+pub end-long : (t : Bool) (a : List Float) (n : ℕ) (e : List Float) → firstPair * n ≤ length a → e ≡ cond t (lent a n Cauchy) (lent a n Target) → length e ≡ n
 end-long true a n e l d = ap length (d ∙ part-lent a Cauchy n) ∙ length-view a n Cauchy (omega arith)
 end-long false a n e l d = ap length (d ∙ part-lent a Target n) ∙ length-view a n Target (omega arith)
 

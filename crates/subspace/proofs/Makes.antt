@@ -9,12 +9,11 @@ use borrow.Author.Tests.{eq-eqb, ne-eqb, not-true, not-false}
 use lib.Ieee as Ieee
 use lib.Ieee.{Float, nan}
 use Rattle.definition.specs.Number.{plus, over, zero64}
-use Rattle.definition.specs.Vector.{tab, word, difference, allFinite}
-use Rattle.definition.specs.Problem.{Bounds}
+use Rattle.definition.specs.Vector.{tab, word, difference, allFinite, _andThen_}
 use Rattle.definition.specs.Solve.{Matrix}
-use Rattle.definition.specs.Compact.{Compact, count, product}
-use Rattle.definition.specs.Geometry.{free, correction, weightedSteps, stepsWithPairs, stepsOf, moved, movedBy, onFree, primalMinimize}
-use Rattle.area.specs.Area.{Vecs, upd, rowwise, given, copyOf, differenceOf, ScratchOnly, X, G, Lower, Upper, Displacement, Cauchy, Target, ProductD, ProductZ, Step}
+use Rattle.definition.specs.Compact.{count, product}
+use Rattle.definition.specs.Geometry.{free, freeSteps, correction, stepsWithPairs, moved, movedBy, onFree, primalMinimize}
+use Rattle.area.specs.Area.{Vecs, upd, rowwise, given, copyOf, differenceOf, firstFree, ScratchOnly, X, G, Lower, Upper, Displacement, Cauchy, Target, ProductD, ProductZ, Step}
 use Rattle.area.proofs.Laws.{scratch-refl, scratch-trans, scratch-upd}
 use Rattle.compact.specs.declared.Shape.{Shape}
 use Rattle.compact.specs.State.{compactOf, Modelled, Prepared, Multiplied}
@@ -22,7 +21,7 @@ use Rattle.compact.proofs.Laws.{tab-get, tab-same, pairs-count}
 use Rattle.compact.proofs.Models.{compact-kept, compact-upd, modelled-kept, prepared-upd}
 use Rattle.subspace.specs.State.{plainIn, weightedIn, movedIn, boundsOf, anyFreeAt, weightsAt, productAt, residualFrom, residualAt, correctionsAt, stepsAt, shareAt, movedAt, movedByAt, onFreeAt, minimumAt, Makes}
 
-scratch-by : {a b : Vecs} (p : ℕ) (x : List Float) → 8 ≤ p → p < 16 → b ≡ upd a p x → ScratchOnly a b
+scratch-by : {a b : Vecs} (p : ℕ) (x : List Float) → 8 ≤ p → p < firstFree → b ≡ upd a p x → ScratchOnly a b
 scratch-by p x l h e = rw e (scratch-upd p x l h scratch-refl)
 
 given-is : (t : Bool) (v : List Float) → given t v ≡ cond t (some v) none
@@ -123,7 +122,10 @@ plain h theta a b z e = record {
 }
 
 abbrev weightedAt : Shape → Float → Vecs → Option (List Float) → Option (List Float)
-weightedAt h theta a w = weightedSteps (h .n) (boundsOf a) (a Cauchy) (compactOf h theta a) (a ProductD) w
+weightedAt h theta a w =
+    w andThen λ z.
+    let c = correction (compactOf h theta a) z in
+    some (freeSteps (h .n) (boundsOf a) (a Cauchy) (λ i. over (Ieee.neg (plus (word (a ProductD) i) (over (c i) theta))) theta))
 
 -- with pairs, the steps are those of the weights
 pub by-weights : (h : Shape) (theta : Float) (a : Vecs) (w : Option (List Float)) → (h .pairs ≡ 0 → ⊥) → w ≡ weightsAt h theta a → weightedAt h theta a w ≡ stepsAt h theta a
@@ -132,7 +134,6 @@ by-weights h theta a w d e = rw (ne-eqb (count (compactOf h theta a)) 0 (λ z. d
 
 pub no-steps : (h : Shape) (theta : Float) (a : Vecs) (ok : Bool) (z : List Float) → weightedAt h theta a (given ok z) ≡ stepsAt h theta a → not ok ≡ true
     → Makes Step (stepsAt h theta a) a false a
-unfolding weightedSteps
 no-steps h theta a ok z e t = record {
   is = ap (λ (t : Bool). weightedAt h theta a (given t z)) (sym (not-true ok t)) ∙ e;
   cauchy = refl;
@@ -141,7 +142,7 @@ no-steps h theta a ok z e t = record {
 
 pub with-steps : (h : Shape) (theta : Float) (a b d : Vecs) (ok : Bool) (z : List Float) → weightedAt h theta a (given ok z) ≡ stepsAt h theta a → not ok ≡ false
     → b ≡ upd a Step (correctionsAt h theta a z) → d ≡ rowwise (h .n) Step (λ (i : ℕ). weightedIn theta) b → Makes Step (stepsAt h theta a) a true d
-unfolding weightedSteps rowwise
+unfolding rowwise
 with-steps h theta a b d ok z e t f g =
     let c = correction (compactOf h theta a) z in
     record {
@@ -168,27 +169,15 @@ bounds-kept m = λ k. record { lower = m .kept .low Lower (omega arith) k; upper
 pub model-kept : {p : ℕ} {F : Option (List Float)} {h : Shape} {theta : Float} {m : Matrix} {a b : Vecs} {ok : Bool} → Makes p F a ok b → Modelled h theta m a → Modelled h theta m b
 model-kept {b = b} k r = modelled-kept b (k .kept .high) r
 
-none-free : (n : ℕ) (b : Bounds) (p : List Float) (c : Compact) (g : List Float) (x : Option (List Float)) → none ≡ residualFrom n g x → none ≡ onFree n b p c g x
-none-free n b p c g none e = refl
-none-free n b p c g (some bz) e = cc
-
-some-free : (n : ℕ) (b : Bounds) (p : List Float) (c : Compact) (g r : List Float) (x : Option (List Float)) → some r ≡ residualFrom n g x
-    → movedBy n b p (stepsOf n b p c r) ≡ onFree n b p c g x
-some-free n b p c g r none e = cc
-some-free n b p c g r (some bz) e =
-    let q : r ≡ tab n (λ i. plus (word bz i) (word g i)) = cc in
-    ap (λ (r : List Float). movedBy n b p (stepsOf n b p c r)) q
-
 from-residual : (h : Shape) (theta : Float) (a b : Vecs) (ok : Bool) → Makes ProductD (residualAt h theta a) a ok b → not ok ≡ false
-    → movedBy (h .n) (boundsOf b) (b Cauchy) (stepsAt h theta b) ≡ onFreeAt h theta a
+    → (stepsAt h theta b andThen movedBy (h .n) (boundsOf b) (b Cauchy)) ≡ onFreeAt h theta a
 from-residual h theta a b ok m t =
-    (λ k. movedBy (h .n) (bounds-kept m k) (m .cauchy k)
-    (stepsOf (h .n) (bounds-kept m k) (m .cauchy k) (compact-kept h theta a b (m .kept .high) k) (b ProductD)))
-    ∙ some-free (h .n) (boundsOf a) (a Cauchy) (compactOf h theta a) (a G) (b ProductD) (productAt h theta a) (has ok (b ProductD) (m .is) t)
+    (λ k. onFree (h .n) (bounds-kept m k) (m .cauchy k) (compact-kept h theta a b (m .kept .high) k) (b ProductD))
+    ∙ ap (λ (o : Option (List Float)). o andThen onFree (h .n) (boundsOf a) (a Cauchy) (compactOf h theta a)) (has ok (b ProductD) (m .is) t)
 
 pub without-residual : (h : Shape) (theta : Float) (a b : Vecs) (ok : Bool) → Makes ProductD (residualAt h theta a) a ok b → not ok ≡ true → Makes Target (onFreeAt h theta a) a false b
 without-residual h theta a b ok m t = record {
-  is = none-free (h .n) (boundsOf a) (a Cauchy) (compactOf h theta a) (a G) (productAt h theta a) (lacks ok (b ProductD) (m .is) t);
+  is = ap (λ (o : Option (List Float)). o andThen onFree (h .n) (boundsOf a) (a Cauchy) (compactOf h theta a)) (lacks ok (b ProductD) (m .is) t);
   cauchy = m .cauchy;
   kept = m .kept;
 }
@@ -196,7 +185,7 @@ without-residual h theta a b ok m t = record {
 pub without-steps : (h : Shape) (theta : Float) (a b d : Vecs) (ok made : Bool) → Makes ProductD (residualAt h theta a) a ok b → not ok ≡ false
     → Makes Step (stepsAt h theta b) b made d → not made ≡ true → Makes Target (onFreeAt h theta a) a false d
 without-steps h theta a b d ok made m t s u = record {
-  is = ap (movedBy (h .n) (boundsOf b) (b Cauchy)) (lacks made (d Step) (s .is) u) ∙ from-residual h theta a b ok m t;
+  is = ap (λ (o : Option (List Float)). o andThen movedBy (h .n) (boundsOf b) (b Cauchy)) (lacks made (d Step) (s .is) u) ∙ from-residual h theta a b ok m t;
   cauchy = s .cauchy ∙ m .cauchy;
   kept = scratch-trans (m .kept) (s .kept);
 }
@@ -206,8 +195,8 @@ pub targets : (h : Shape) (theta : Float) (a b d e : Vecs) (ok made r : Bool) �
 targets h theta a b d e ok made r m t s u v = record {
   is =
       v .is
-      ∙ (λ k. movedBy (h .n) (bounds-kept s k) (s .cauchy k) (some (d Step)))
-      ∙ ap (movedBy (h .n) (boundsOf b) (b Cauchy)) (has made (d Step) (s .is) u)
+      ∙ (λ k. movedBy (h .n) (bounds-kept s k) (s .cauchy k) (d Step))
+      ∙ ap (λ (o : Option (List Float)). o andThen movedBy (h .n) (boundsOf b) (b Cauchy)) (has made (d Step) (s .is) u)
       ∙ from-residual h theta a b ok m t;
   cauchy = v .cauchy ∙ s .cauchy ∙ m .cauchy;
   kept = scratch-trans (m .kept) (scratch-trans (s .kept) (v .kept));

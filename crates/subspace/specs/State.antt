@@ -3,12 +3,12 @@ use Prim.Native.Nat.{ℕ, _*_, _<_}
 use mathlib.Core.Path.{_≡_}
 use mathlib.Core.Bool.{Bool, cond, _&&_}
 use mathlib.Core.List.{List}
-use mathlib.Core.Option.{Option, none, some}
+use mathlib.Core.Option.{Option, some}
 use lib.ListN.{length}
 use lib.Ieee as Ieee
 use lib.Ieee.{Float}
 use Rattle.definition.specs.Number.{plus, minus, times, over, min, clamp, zero64}
-use Rattle.definition.specs.Vector.{tab, word, foldTo, difference}
+use Rattle.definition.specs.Vector.{tab, word, foldTo, difference, _andThen_}
 use Rattle.definition.specs.Problem.{Bounds}
 use Rattle.definition.specs.Solve.{Matrix, row, entry, put, solve}
 use Rattle.definition.specs.Compact.{count, padded, zeroRow, paddedRows, product}
@@ -121,8 +121,7 @@ abbrev pub productAt : Shape → Float → Vecs → Option (List Float)
 productAt h theta v = product (h .n) (compactOf h theta v) (difference (h .n) (v Cauchy) (v X))
 
 abbrev pub residualFrom : ℕ → List Float → Option (List Float) → Option (List Float)
-residualFrom n g none = none
-residualFrom n g (some bz) = some (tab n (λ i. plus (word bz i) (word g i)))
+residualFrom n g o = o andThen λ bz. some (tab n (λ i. plus (word bz i) (word g i)))
 
 abbrev pub residualAt : Shape → Float → Vecs → Option (List Float)
 residualAt h theta v = residualFrom (h .n) (v G) (productAt h theta v)
@@ -142,10 +141,10 @@ abbrev pub movedAt : ℕ → Vecs → Float → Option (List Float)
 movedAt n v alpha = moved n (boundsOf v) (v Cauchy) (v Step) alpha
 
 abbrev pub movedByAt : ℕ → Vecs → Option (List Float)
-movedByAt n v = movedBy n (boundsOf v) (v Cauchy) (some (v Step))
+movedByAt n v = movedBy n (boundsOf v) (v Cauchy) (v Step)
 
 abbrev pub onFreeAt : Shape → Float → Vecs → Option (List Float)
-onFreeAt h theta v = onFree (h .n) (boundsOf v) (v Cauchy) (compactOf h theta v) (v G) (productAt h theta v)
+onFreeAt h theta v = residualAt h theta v andThen onFree (h .n) (boundsOf v) (v Cauchy) (compactOf h theta v)
 
 abbrev pub minimumAt : Shape → Float → Vecs → Option (List Float)
 minimumAt h theta v = primalMinimize (h .n) (boundsOf v) (compactOf h theta v) (v X) (v G) (v Cauchy)

@@ -7,7 +7,7 @@ ghost use lib.Ieee as Ieee;
 ghost use lib.Ieee.{Float};
 ghost use Rattle.definition.specs.Number.{plus, times, zero64, negZero};
 ghost use Rattle.definition.specs.Compact.{padded, paddedRows};
-ghost use Rattle.area.specs.Area.{view, upd, wordsAt, rowwise, Target, ProductD, ProductZ, Step, G};
+ghost use Rattle.area.specs.Area.{view, upd, wordsAt, rowwise, firstPair, Target, ProductD, ProductZ, Step, G};
 ghost use Rattle.solve.specs.Answers.{answerOf};
 ghost use Rattle.compact.specs.State.{compactOf, columnSlot, Sound, Laid, Modelled, Prepared};
 ghost use Rattle.subspace.specs.State.{freeIn, freeTerm, columnsIn, grid, rowEach, each, productTo, fourTo, addRows, Held, addFree, reducedBy, plainIn, weightedIn, shortenedIn, shareIn, movedIn, headIn, headed, Makes, Minimizes};
@@ -17,7 +17,7 @@ ghost use Rattle.subspace.specs.State.{anyFreeAt, freeSumAt, reducedAt, 
 
 // Whether coordinate i of the Cauchy point lies strictly between its bounds.
 fn is_free(area: &[f64], n: usize, i: usize) -> bool
-    requires { ⌜ (16 * n ≤ length (now area)) × (i < n) ⌝ }
+    requires { ⌜ (firstPair * n ≤ length (now area)) × (i < n) ⌝ }
     ensures { λ r. ⌜ r ≡ freeIn (wordsAt (now (area .entry)) n i) ⌝ }
 {
     let x = area[area::CAUCHY * n + i];
@@ -29,7 +29,7 @@ fn is_free(area: &[f64], n: usize, i: usize) -> bool
 
 // Whether any coordinate of the Cauchy point is free.
 fn any_free(area: &[f64], n: usize) -> bool
-    requires { ⌜ 16 * n ≤ length (now area) ⌝ }
+    requires { ⌜ firstPair * n ≤ length (now area) ⌝ }
     ensures { λ r. ⌜ r ≡ anyFreeAt n (view (now (area .entry)) n) ⌝ }
 {
     let mut i = 0;
@@ -44,7 +44,7 @@ fn any_free(area: &[f64], n: usize) -> bool
 
 // The sum s, and the product of the words at i of vectors p and q where i is free.
 fn free_term(area: &[f64], n: usize, p: usize, q: usize, i: usize, s: f64) -> f64
-    requires { ⌜ (16 * n ≤ length (now area)) × (p * n + n ≤ length (now area)) × (q * n + n ≤ length (now area)) × (i < n) ⌝ }
+    requires { ⌜ (firstPair * n ≤ length (now area)) × (p * n + n ≤ length (now area)) × (q * n + n ≤ length (now area)) × (i < n) ⌝ }
     ensures { λ r. ⌜ r ≡ freeTerm p q (wordsAt (now (area .entry)) n i) s ⌝ }
 {
     if is_free(area, n, i) {
@@ -55,7 +55,7 @@ fn free_term(area: &[f64], n: usize, p: usize, q: usize, i: usize, s: f64) -> f6
 
 // The product of vectors p and q over the free coordinates, from the left and from -0.0.
 fn free_sum(area: &[f64], n: usize, p: usize, q: usize) -> f64
-    requires { ⌜ (16 * n ≤ length (now area)) × (p * n + n ≤ length (now area)) × (q * n + n ≤ length (now area)) ⌝ }
+    requires { ⌜ (firstPair * n ≤ length (now area)) × (p * n + n ≤ length (now area)) × (q * n + n ≤ length (now area)) ⌝ }
     ensures { λ r. ⌜ r ≡ freeSumAt n (view (now (area .entry)) n) p q ⌝ }
 {
     let mut s = float::NEG_ZERO;
@@ -71,7 +71,7 @@ fn free_sum(area: &[f64], n: usize, p: usize, q: usize) -> f64
 
 // The product with the displacement, and the gradient.
 fn add_gradient(area: &mut [f64], n: usize)
-    requires { ⌜ 16 * n ≤ length (now area) ⌝ }
+    requires { ⌜ firstPair * n ≤ length (now area) ⌝ }
     ensures { λ _. ⌜ view (now (area .exit)) n ≡ rowwise n ProductD (λ (i : ℕ) w. plus (w ProductZ) (w G)) (view (now (area .entry)) n) ⌝ }
 {
     let mut i = 0;
@@ -154,7 +154,7 @@ fn gather(area: &[f64], h: compact::Shape, k: usize) -> [f64; 32]
     let mut r = compact::zeros();
     let mut j = 0;
     while j < size {
-        r[j] = area::get(area, h.n, 16 + 2 * h.m + j, k);
+        r[j] = area::get(area, h.n, area::FIRST_PAIR + 2 * h.m + j, k);
         j += 1;
     }
     r
@@ -303,7 +303,7 @@ fn reduced_right(area: &[f64], h: compact::Shape, theta: f64) -> [f64; 32]
     let mut r = compact::zeros();
     let mut i = 0;
     while i < size {
-        r[i] = free_sum(area, h.n, 16 + 2 * h.m + i, area::PRODUCT_D);
+        r[i] = free_sum(area, h.n, area::FIRST_PAIR + 2 * h.m + i, area::PRODUCT_D);
         i += 1;
     }
     r
@@ -323,7 +323,7 @@ fn weights(area: &[f64], h: compact::Shape, theta: f64, block: &[[f64; 32]; 32])
 
 // The step becomes itself and vector q times w.
 fn add_column(area: &mut [f64], n: usize, q: usize, w: f64)
-    requires { ⌜ (16 * n ≤ length (now area)) × (q * n + n ≤ length (now area)) ⌝ }
+    requires { ⌜ (firstPair * n ≤ length (now area)) × (q * n + n ≤ length (now area)) ⌝ }
     ensures { λ _. ⌜ view (now (area .exit)) n ≡ rowwise n Step (λ (i : ℕ) v. plus (v Step) (times (v q) w)) (view (now (area .entry)) n) ⌝ }
 {
     let mut i = 0;
@@ -342,14 +342,14 @@ fn corrections(area: &mut [f64], h: compact::Shape, theta: f64, z: [f64; 32])
     area::fill(area, h.n, area::STEP, float::NEG_ZERO);
     let mut k = 0;
     while k < size {
-        add_column(area, h.n, 16 + 2 * h.m + k, z[k]);
+        add_column(area, h.n, area::FIRST_PAIR + 2 * h.m + k, z[k]);
         k += 1;
     }
 }
 
 // The step at i where there are no pairs: 0 where i is not free.
 fn plain_at(area: &[f64], n: usize, theta: f64, i: usize) -> f64
-    requires { ⌜ (16 * n ≤ length (now area)) × (i < n) ⌝ }
+    requires { ⌜ (firstPair * n ≤ length (now area)) × (i < n) ⌝ }
     ensures { λ r. ⌜ r ≡ plainIn theta (wordsAt (now (area .entry)) n i) ⌝ }
 {
     if is_free(area, n, i) {
@@ -360,7 +360,7 @@ fn plain_at(area: &[f64], n: usize, theta: f64, i: usize) -> f64
 
 // Every step, without pairs.
 fn plain_steps(area: &mut [f64], n: usize, theta: f64)
-    requires { ⌜ 16 * n ≤ length (now area) ⌝ }
+    requires { ⌜ firstPair * n ≤ length (now area) ⌝ }
     ensures { λ _. ⌜ view (now (area .exit)) n ≡ rowwise n Step (λ (i : ℕ). plainIn theta) (view (now (area .entry)) n) ⌝ }
 {
     let mut i = 0;
@@ -373,7 +373,7 @@ fn plain_steps(area: &mut [f64], n: usize, theta: f64)
 
 // The step at i, its correction standing in its place: 0 where i is not free.
 fn weighted_at(area: &[f64], n: usize, theta: f64, i: usize) -> f64
-    requires { ⌜ (16 * n ≤ length (now area)) × (i < n) ⌝ }
+    requires { ⌜ (firstPair * n ≤ length (now area)) × (i < n) ⌝ }
     ensures { λ r. ⌜ r ≡ weightedIn theta (wordsAt (now (area .entry)) n i) ⌝ }
 {
     if is_free(area, n, i) {
@@ -384,7 +384,7 @@ fn weighted_at(area: &[f64], n: usize, theta: f64, i: usize) -> f64
 
 // Every step, by its correction.
 fn weighted_steps(area: &mut [f64], n: usize, theta: f64)
-    requires { ⌜ 16 * n ≤ length (now area) ⌝ }
+    requires { ⌜ firstPair * n ≤ length (now area) ⌝ }
     ensures { λ _. ⌜ view (now (area .exit)) n ≡ rowwise n Step (λ (i : ℕ). weightedIn theta) (view (now (area .entry)) n) ⌝ }
 {
     let mut i = 0;
@@ -418,7 +418,7 @@ fn steps(area: &mut [f64], h: compact::Shape, theta: f64, block: &[[f64; 32]; 32
 
 // How far coordinate i, which is free, lets the step go.
 fn shortened(area: &[f64], n: usize, i: usize, alpha: f64) -> f64
-    requires { ⌜ (16 * n ≤ length (now area)) × (i < n) ⌝ }
+    requires { ⌜ (firstPair * n ≤ length (now area)) × (i < n) ⌝ }
     ensures { λ r. ⌜ r ≡ shortenedIn (wordsAt (now (area .entry)) n i) alpha ⌝ }
 {
     let x = area[area::CAUCHY * n + i];
@@ -434,7 +434,7 @@ fn shortened(area: &[f64], n: usize, i: usize, alpha: f64) -> f64
 
 // What coordinate i leaves of alpha.
 fn share_at(area: &[f64], n: usize, i: usize, alpha: f64) -> f64
-    requires { ⌜ (16 * n ≤ length (now area)) × (i < n) ⌝ }
+    requires { ⌜ (firstPair * n ≤ length (now area)) × (i < n) ⌝ }
     ensures { λ r. ⌜ r ≡ shareIn (wordsAt (now (area .entry)) n i) alpha ⌝ }
 {
     if is_free(area, n, i) {
@@ -445,7 +445,7 @@ fn share_at(area: &[f64], n: usize, i: usize, alpha: f64) -> f64
 
 // The share of the step that keeps every free coordinate within its bounds.
 fn share(area: &[f64], n: usize) -> f64
-    requires { ⌜ 16 * n ≤ length (now area) ⌝ }
+    requires { ⌜ firstPair * n ≤ length (now area) ⌝ }
     ensures { λ r. ⌜ r ≡ shareAt n (view (now (area .entry)) n) ⌝ }
 {
     let mut alpha = 1.0;
@@ -459,7 +459,7 @@ fn share(area: &[f64], n: usize) -> f64
 
 // Word i of the target.
 fn moved_at(area: &[f64], n: usize, alpha: f64, i: usize) -> f64
-    requires { ⌜ (16 * n ≤ length (now area)) × (i < n) ⌝ }
+    requires { ⌜ (firstPair * n ≤ length (now area)) × (i < n) ⌝ }
     ensures { λ r. ⌜ r ≡ movedIn alpha (wordsAt (now (area .entry)) n i) ⌝ }
 {
     let x = area[area::CAUCHY * n + i];
@@ -473,7 +473,7 @@ fn moved_at(area: &[f64], n: usize, alpha: f64, i: usize) -> f64
 
 // The target: the Cauchy point, its free coordinates moved by alpha times the step and brought into the box.
 fn moved(area: &mut [f64], n: usize, alpha: f64) -> bool
-    requires { ⌜ 16 * n ≤ length (now area) ⌝ }
+    requires { ⌜ firstPair * n ≤ length (now area) ⌝ }
     ensures { λ r. ⌜ Makes Target (movedAt n (view (now (area .entry)) n) alpha) (view (now (area .entry)) n) r (view (now (area .exit)) n) ⌝ }
 {
     let mut i = 0;
@@ -487,7 +487,7 @@ fn moved(area: &mut [f64], n: usize, alpha: f64) -> bool
 
 // The target by the share that the bounds leave, where the steps are finite.
 fn moved_by(area: &mut [f64], n: usize) -> bool
-    requires { ⌜ 16 * n ≤ length (now area) ⌝ }
+    requires { ⌜ firstPair * n ≤ length (now area) ⌝ }
     ensures { λ r. ⌜ Makes Target (movedByAt n (view (now (area .entry)) n)) (view (now (area .entry)) n) r (view (now (area .exit)) n) ⌝ }
 {
     if !area::all_finite(area, n, area::STEP) {
@@ -554,7 +554,7 @@ pub fn end<'a>(target: &'a [f64], cauchy: &'a [f64], slope: f64) -> &'a [f64]
 
 // Word i of the chosen end, less that of x.
 fn head_at(area: &[f64], n: usize, slope: f64, i: usize) -> f64
-    requires { ⌜ (16 * n ≤ length (now area)) × (i < n) ⌝ }
+    requires { ⌜ (firstPair * n ≤ length (now area)) × (i < n) ⌝ }
     ensures { λ r. ⌜ r ≡ headIn slope (wordsAt (now (area .entry)) n i) ⌝ }
 {
     let t = area::TARGET * n;
@@ -569,7 +569,7 @@ fn head_at(area: &[f64], n: usize, slope: f64, i: usize) -> f64
 
 // The direction leads from x to the target, or to the Cauchy point where the target lies uphill.
 pub fn head(area: &mut [f64], n: usize)
-    requires { ⌜ 16 * n ≤ length (now area) ⌝ }
+    requires { ⌜ firstPair * n ≤ length (now area) ⌝ }
     ensures { λ _. ⌜ ((f : Float) → view (now (area .exit)) n ≡ headed n f (view (now (area .entry)) n)) ⌝ }
 {
     area::difference(area, n, area::DIRECTION, area::TARGET, area::X);

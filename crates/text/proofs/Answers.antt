@@ -11,18 +11,18 @@ use lib.Ieee.{Float}
 use Rattle.definition.specs.Problem as P
 use Rattle.definition.specs.Problem.{refuse, when, _then_}
 use Rattle.definition.specs.Machine as M
-use Rattle.definition.specs.Driver.{run}
 use Rattle.definition.specs.Record.{Reading}
+use Rattle.definition.specs.Book.{Book, runOf}
 use Rattle.definition.specs.History as H
-use Rattle.definition.specs.History.{Call}
-use Rattle.definition.specs.Programs.{Printed, printedFit, printedOf, printed, readInput}
+use Rattle.definition.specs.History.{Call, refusedBy}
+use Rattle.definition.specs.Programs.{inputCoordinates, Printed, printedFit, printedOf, printed, readInput}
 use Rattle.problem.specs.declared.Refusal.{Refusal}
 use Rattle.fit.specs.declared.Fit.{Fit}
 use Rattle.driver.proofs.Laws.{ready-facts, held-ready}
 use Rattle.lbfgsb.specs.Words.{Words, words, machineIn, Held}
 use Rattle.lbfgsb.specs.Bridge.{told}
 use Rattle.lbfgsb.specs.Did.{Read}
-use Rattle.lbfgsb.specs.Table.{refusedBy, reportAnswer}
+use Rattle.lbfgsb.specs.Table.{reportAnswer}
 use Rattle.lbfgsb.specs.declared.Answer.{Answer}
 use Rattle.lbfgsb.specs.declared.Answer.the-variants as A
 use Rattle.lbfgsb.specs.declared.Told.{Told}
@@ -33,7 +33,7 @@ use Rattle.text.specs.Puts.{printedAs}
 -- ---- a refusal
 
 refused-go : (z : Reading) (c : Refusal) (a : List Float) (l : List ℕ) → Taken z (A.Refused c) a l → printedOf z ≡ Printed.refused (c .number)
-refused-go (Reading.accepted s rs) c a l h = absurd h
+refused-go (Reading.accepted b) c a l h = absurd h
 refused-go (Reading.refused k) c a l h = ap (λ (r : P.Refusal). Printed.refused (r .number)) (sym h)
 refused-go (Reading.refusedAtEntry k) c a l h = ap (λ (r : P.Refusal). Printed.refused (r .number)) (sym h)
 
@@ -43,7 +43,7 @@ refused-printed bs r c a l h e = sym (refused-go (readInput bs) c a l (subst (λ
 
 -- ---- a fit
 
-held-n : {w : Words} {s : P.Setup} {rs : List M.Reply} → Held w s rs → w .state .shape .n ≤ 64
+held-n : {w : Words} {b : Book} → Held w b → w .state .shape .n ≤ inputCoordinates
 held-n {w} h = omega (arith, ready-facts (w .state) (length (w .area)) (held-ready (w .state) (w .area) (h .stands .test)) .ready)
 
 -- an answer to the report's call
@@ -64,19 +64,19 @@ reported : (u : Bool) (r : M.Report) → answered (refusedBy (when u (refuse 15 
 reported true r = refl
 reported false r = refl
 
-held-answered : (w : Words) (s : P.Setup) (rs : List M.Reply) → Held w s rs → answered (reportAnswer w 64) ≡ printedFit (run s rs)
-held-answered w s rs h =
-    rw (h .stands .test, le-ltb 64 (w .state .shape .n) (held-n h))
-    (reported (M.unreported (machineIn w .phase)) (M.report (machineIn w)) ∙ ap printedFit (h .stands .is))
+held-answered : (w : Words) (b : Book) → Held w b → answered (reportAnswer w inputCoordinates) ≡ printedFit (runOf b)
+held-answered w b h =
+    rw (h .stands .test, le-ltb inputCoordinates (w .state .shape .n) (held-n h))
+    (reported (M.unreported (machineIn w .phase)) (M.reportNow (machineIn w)) ∙ ap printedFit (h .stands .is))
 
 fit-go : (z : Reading) (f : Fit) (a : List Float) (l : List ℕ) (t : Told) (x : List Float) → Taken z (A.Kept f) a l
-    → told t (f .shape .n) x ≡ reportAnswer (words f a l) 64 → (f .shape .n ≤ 64) × (printedAs t (f .shape .n) x ≡ printedOf z)
-fit-go (Reading.accepted s rs) f a l t x h e = (held-n h, answered-told t (f .shape .n) x ∙ ap answered e ∙ held-answered (words f a l) s rs h)
+    → told t (f .shape .n) x ≡ reportAnswer (words f a l) inputCoordinates → (f .shape .n ≤ inputCoordinates) × (printedAs t (f .shape .n) x ≡ printedOf z)
+fit-go (Reading.accepted b) f a l t x h e = (held-n h, answered-told t (f .shape .n) x ∙ ap answered e ∙ held-answered (words f a l) b h)
 fit-go (Reading.refused k) f a l t x h e = absurd h
 fit-go (Reading.refusedAtEntry k) f a l t x h e = absurd h
 
-pub fit-printed : (bs : List ℕ) (r : Answer) (f : Fit) (a : List Float) (l : List ℕ) (t : Told) (x x' : List Float) → Taken (readInput bs) r a l → r ≡ A.Kept f → length x ≡ 64
+pub fit-printed : (bs : List ℕ) (r : Answer) (f : Fit) (a : List Float) (l : List ℕ) (t : Told) (x x' : List Float) → Taken (readInput bs) r a l → r ≡ A.Kept f → length x ≡ inputCoordinates
     → ((m : List ℕ) → Read (Call.report (length x)) (words f a m) (told t (f .shape .n) x') x x')
-    → (f .shape .n ≤ 64) × (printedAs t (f .shape .n) x' ≡ printed bs)
+    → (f .shape .n ≤ inputCoordinates) × (printedAs t (f .shape .n) x' ≡ printed bs)
 fit-printed bs r f a l t x x' h e k d =
     fit-go (readInput bs) f a l t x' (subst (λ (y : Answer). Taken (readInput bs) y a l) e h) (d l .always ∙ ap (reportAnswer (words f a l)) k)

@@ -4,6 +4,7 @@ use mathlib.Core.Path.{_≡_, refl, ap, _∙_}
 use mathlib.Core.List.{List, [], _∷_}
 use lib.Ieee.{toBits}
 use Rattle.definition.specs.Number.{zero64}
+use Rattle.definition.specs.Book.{book}
 use Rattle.definition.specs.Record.{recordBytes}
 use Rattle.definition.specs.Programs.{Printed, printed}
 use Rattle.definition.specs.Starred.{reported, parabola, parabolaReplies}
@@ -30,5 +31,5 @@ starred-lines : textOf (Printed.lines (reported 1 1 2 2 zero64 zero64)) ≡ star
 unfolding reportLines countLine floatLine pointLines decimal decimalTo hexadecimal toBits
 starred-lines = refl
 
-pub starred-text : textOf (printed (recordBytes parabola parabolaReplies)) ≡ starredText
+pub starred-text : textOf (printed (recordBytes (book parabola parabolaReplies))) ≡ starredText
 starred-text = ap textOf (every-starred-case .0) ∙ starred-lines

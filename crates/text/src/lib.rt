@@ -2,7 +2,7 @@
 ghost use mathlib.Core.Path.{_≡_};
 ghost use Prim.Native.Nat.{_+_, _*_, _≤_};
 ghost use lib.ListN.{length, take};
-ghost use Rattle.definition.specs.Programs.{printed};
+ghost use Rattle.definition.specs.Programs.{inputCoordinates, inputArea, inputLog, printed};
 ghost use Rattle.question.specs.Reports.{reportOf, written};
 ghost use Rattle.text.specs.Text.{decimal, hexadecimal, xWord, countLine, floatLine, pointLines, reportLines, textOf};
 ghost use Rattle.text.specs.Puts.{Puts, printedAs};
@@ -100,7 +100,7 @@ fn put_report(out: &mut [u8], o: Outcome, point: &[f64], n: usize) -> usize
 
 // What the report's answer prints.
 fn put_told(out: &mut [u8], t: Told, point: &[f64], n: usize) -> usize
-    requires { ⌜ (n ≤ 64) × (n ≤ length (now point)) × (2048 ≤ length (now out)) ⌝ }
+    requires { ⌜ (n ≤ inputCoordinates) × (n ≤ length (now point)) × (2048 ≤ length (now out)) ⌝ }
     ensures { λ r. ⌜ Puts (textOf (printedAs t n (now (point .entry)))) 2048 0 (now (out .entry)) r (now (out .exit)) ⌝ }
 {
     match t {
@@ -117,7 +117,7 @@ fn put_read(
     point: &mut [f64],
     out: &mut [u8],
 ) -> usize
-    requires { ⌜ (length (now area) ≡ 6208) × (length (now log) ≡ 8192) × (length (now point) ≡ 64) × (2048 ≤ length (now out)) ⌝ }
+    requires { ⌜ (length (now area) ≡ inputArea) × (length (now log) ≡ inputLog) × (length (now point) ≡ inputCoordinates) × (2048 ≤ length (now out)) ⌝ }
     ensures { λ r. ⌜ Puts (textOf (printed (now (input .entry)))) 2048 0 (now (out .entry)) r (now (out .exit)) ⌝ }
 {
     let read = input::read(area, log, input);
@@ -137,6 +137,6 @@ pub fn put_text(input: &[u8], out: &mut [u8]) -> usize
 {
     let mut area = [0.0f64; input::AREA];
     let mut log = [0u64; input::LOG];
-    let mut point = [0.0f64; 64];
+    let mut point = [0.0f64; input::COORDINATES];
     put_read(input, &mut area, &mut log, &mut point, out)
 }

@@ -6,10 +6,10 @@ ghost use lib.Ieee.{Float};
 ghost use Rattle.definition.specs.Number.{max as maxOf};
 ghost use Rattle.definition.specs.Search.{limitOf as limitOn, beginSearch, trialPoint};
 ghost use Rattle.definition.specs.Driver.{projectedNorm, gradientSmall, decreaseSmall, tryStep, searchAlong};
-ghost use Rattle.area.specs.Area.{Vecs, view, upd, wordsAt, X, G, Trial, Direction};
+ghost use Rattle.area.specs.Area.{Vecs, view, upd, wordsAt, firstPair, X, G, Trial, Direction};
 ghost use Rattle.compact.specs.State.{Sound};
 ghost use Rattle.search.specs.State.{searchOf, limitOf, nextOf, Settled, NextSettled};
-ghost use Rattle.fit.specs.State.{machine, machineOf, Steps, Small};
+ghost use Rattle.fit.specs.State.{machine, machineOf, Steps};
 ghost use Rattle.trial.specs.Words.{boundsOf, trialIn, projectedIn, distanceIn};
 use counters::Termination;
 use fit::Fit;
@@ -24,7 +24,7 @@ use search::Trials;
 
 // The larger of `largest` and coordinate i of the projected gradient.
 fn projected_at(area: &[f64], n: usize, largest: f64, i: usize) -> f64
-    requires { ⌜ (16 * n ≤ length (now area)) × (i < n) ⌝ }
+    requires { ⌜ (firstPair * n ≤ length (now area)) × (i < n) ⌝ }
     ensures { λ r. ⌜ r ≡ maxOf largest (projectedIn (wordsAt (now (area .entry)) n i)) ⌝ }
 {
     let g = area[area::G * n + i];
@@ -39,7 +39,7 @@ fn projected_at(area: &[f64], n: usize, largest: f64, i: usize) -> f64
 
 // `projected_norm` of the point held.
 fn projected_norm(area: &[f64], n: usize) -> f64
-    requires { ⌜ 16 * n ≤ length (now area) ⌝ }
+    requires { ⌜ firstPair * n ≤ length (now area) ⌝ }
     ensures { λ r. ⌜ ((f : Float) → r ≡ projectedNorm n (boundsOf (view (now (area .entry)) n)) (record { x = view (now (area .entry)) n X; f = f; g = view (now (area .entry)) n G })) ⌝ }
 {
     let mut largest = 0.0f64;
@@ -73,7 +73,7 @@ pub fn decrease_small(t: Fit) -> bool
 
 // Coordinate i of the trial point.
 fn trial_at(area: &[f64], n: usize, alpha: f64, i: usize) -> f64
-    requires { ⌜ (16 * n ≤ length (now area)) × (i < n) ⌝ }
+    requires { ⌜ (firstPair * n ≤ length (now area)) × (i < n) ⌝ }
     ensures { λ r. ⌜ r ≡ trialIn alpha (wordsAt (now (area .entry)) n i) ⌝ }
 {
     let x = area[area::X * n + i];
@@ -85,7 +85,7 @@ fn trial_at(area: &[f64], n: usize, alpha: f64, i: usize) -> f64
 
 // The trial point: the point held plus alpha times the direction, brought into the box.
 fn put_trial(area: &mut [f64], n: usize, alpha: f64)
-    requires { ⌜ 16 * n ≤ length (now area) ⌝ }
+    requires { ⌜ firstPair * n ≤ length (now area) ⌝ }
     ensures { λ _. ⌜ view (now (area .exit)) n ≡ upd (view (now (area .entry)) n) Trial (trialPoint n (boundsOf (view (now (area .entry)) n)) (view (now (area .entry)) n X) (view (now (area .entry)) n Direction) alpha) ⌝ }
 {
     let mut i = 0;
@@ -97,7 +97,7 @@ fn put_trial(area: &mut [f64], n: usize, alpha: f64)
 
 // The next trial of a search: its value is asked.
 pub fn try_step(t: Fit, area: &mut [f64], s: Search, k: Trials) -> Fit
-    requires { ⌜ Sound (t .shape) (length (now area)) × Small (t .counters) × Settled s k ⌝ }
+    requires { ⌜ Sound (t .shape) (length (now area)) × Settled s k ⌝ }
     ensures { λ r. ⌜ Steps (tryStep (searchOf s k)) t (now (area .entry)) r (now (area .exit)) ⌝ }
 {
     put_trial(area, t.shape.n, s.alpha);
@@ -111,7 +111,7 @@ pub fn try_step(t: Fit, area: &mut [f64], s: Search, k: Trials) -> Fit
 
 // The step at which coordinate i meets its bound: infinity where it does not move.
 fn distance_at(area: &[f64], n: usize, i: usize) -> f64
-    requires { ⌜ (16 * n ≤ length (now area)) × (i < n) ⌝ }
+    requires { ⌜ (firstPair * n ≤ length (now area)) × (i < n) ⌝ }
     ensures { λ r. ⌜ r ≡ distanceIn (wordsAt (now (area .entry)) n i) ⌝ }
 {
     let d = area[area::DIRECTION * n + i];
@@ -127,7 +127,7 @@ fn distance_at(area: &[f64], n: usize, i: usize) -> f64
 
 // How far the box lets the step go.
 fn limit_of(area: &[f64], n: usize) -> Limit
-    requires { ⌜ 16 * n ≤ length (now area) ⌝ }
+    requires { ⌜ firstPair * n ≤ length (now area) ⌝ }
     ensures { λ r. ⌜ limitOf r ≡ limitOn n (boundsOf (view (now (area .entry)) n)) (view (now (area .entry)) n X) (view (now (area .entry)) n Direction) ⌝ }
 {
     let mut l = Limit {
@@ -144,7 +144,7 @@ fn limit_of(area: &[f64], n: usize) -> Limit
 
 // The first trial, or none: there is nothing to search.
 fn begin_search(area: &[f64], n: usize) -> Next
-    requires { ⌜ 16 * n ≤ length (now area) ⌝ }
+    requires { ⌜ firstPair * n ≤ length (now area) ⌝ }
     ensures { λ r. ⌜ (nextOf r ≡ beginSearch n (boundsOf (view (now (area .entry)) n)) (view (now (area .entry)) n X) (view (now (area .entry)) n G) (view (now (area .entry)) n Direction)) × NextSettled r ⌝ }
 {
     let slope0 = area::dot(area, n, area::G, area::DIRECTION);
@@ -159,7 +159,7 @@ fn begin_search(area: &[f64], n: usize) -> Next
 
 // The run ends here unless the search hands back a step.
 pub fn search_along(t: Fit, area: &mut [f64]) -> Fit
-    requires { ⌜ Sound (t .shape) (length (now area)) × Small (t .counters) ⌝ }
+    requires { ⌜ Sound (t .shape) (length (now area)) ⌝ }
     ensures { λ r. ⌜ Steps searchAlong t (now (area .entry)) r (now (area .exit)) ⌝ }
 {
     let next = begin_search(area, t.shape.n);

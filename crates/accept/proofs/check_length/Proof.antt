@@ -1,7 +1,8 @@
 -- `accept::check_length` meets its contract. Assumes nothing.
 use mathlib.Core.Path.{sym, _∙_}
 use borrow.Author.Needs.{needs}
-use Rattle.accept.proofs.Replying.{no-length, wrong-length, right-length}
+use Rattle.driver.proofs.Steps.{right-length}
+use Rattle.accept.proofs.Replying.{no-length, wrong-length}
 use Rattle.accept.proofs.check_length.Statement.{statement}
 use Rattle.accept.proofs.check_length.Tie as tie
 
@@ -19,7 +20,7 @@ returns-3 : tie.Need-returns-3
 returns-3 c =
     λ ws e.
     let s = c .before .before .before in
-    right-length (s .args .n) (s .args .r) ws (sym (c .before .before .kind-of .ensures) ∙ c .before .if1 .left) (e ∙ c .if2 .left)
+    sym (right-length (s .args .n) (s .args .r) ws (e ∙ c .if2 .left))
 
 pub check-length-spec : {M : Type 1} → statement M
 check-length-spec =

@@ -1,5 +1,4 @@
 -- `accept::opened` meets its contract: opened, and marked. Assumes nothing.
-use mathlib.Core.Path.{_≡_}
 use borrow.Author.Needs.{needs}
 use lib.ListN.{length}
 use Rattle.problem.specs.Setups.{setupIn}
@@ -14,16 +13,12 @@ begin-requires c κs =
     let s = c .before .before .before .before .before in
     start-room (s .args .o) (s .args .x0 .now) (s .args .lower .now) (s .args .upper .now) (length (s .args .area .now)) 0 (s .pre)
 
--- the area is as long after the opening
-begin-length : (c : tie.After-begin) → length (c .begin .last .1 .0) ≡ length (c .before .before .before .before .before .before .args .area .now)
-begin-length c = search needs
-
 mark-requires : tie.Need-mark-requires
 mark-requires c κs =
     let b = c .before .before .before .before in
     let s = b .before .before .before .before .before .before in
     let a = s .args in
-    let h = start-reached (setupIn (a .o) (a .x0 .now) (a .lower .now) (a .upper .now)) _ _ 0 (a .area .now) (b .begin .last .1 .0) (b .begin .result) (s .pre) (begin-length b) (b .begin .ensures) in
+    let h = start-reached (setupIn (a .o) (a .x0 .now) (a .lower .now) (a .upper .now)) _ _ 0 (a .area .now) (b .begin .last .1 .0) (b .begin .result) (s .pre) (b .begin .ensures) in
     ready-facts (b .begin .result) (length (b .begin .last .1 .0)) (reached-ready h) .shape
 
 returns : tie.Need-returns
@@ -32,7 +27,7 @@ returns c =
     let b = c .before .before .before .before .before .before .before in
     let s = b .before .before .before .before .before .before in
     let a = s .args in
-    let h = start-reached (setupIn (a .o) (a .x0 .now) (a .lower .now) (a .upper .now)) _ _ 0 (a .area .now) (b .begin .last .1 .0) (b .begin .result) (s .pre) (begin-length b) (b .begin .ensures) in
+    let h = start-reached (setupIn (a .o) (a .x0 .now) (a .lower .now) (a .upper .now)) _ _ 0 (a .area .now) (b .begin .last .1 .0) (b .begin .result) (s .pre) (b .begin .ensures) in
     start-held l h (c .before .before .mark .ensures)
 
 pub opened-spec : {M : Type 1} → statement M

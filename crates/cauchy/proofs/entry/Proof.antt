@@ -44,6 +44,7 @@ use denote.Triple.Table.{entered, cited}
 use denote.Triple.Walked.{says, needs, Stays, stay-none, walkOf, goes-none, Walks, ends-at, walked, walk-meets}
 use denote.Triple.Clauses.{ensured, lasts}
 use denote.Exit.{yes}
+use Rattle.definition.specs.Problem.{mostCoordinates}
 use Rattle.cauchy.specs.declared.BreakTime.{BreakTime}
 use Rattle.cauchy.specs.State.{noBreakTime}
 use Rattle.cauchy.proofs.Cells.{R, vals, aval, array, packs, unpacks}
@@ -71,7 +72,7 @@ module _ {M : Type 1} (𝓤 : URA M) (H : Heap 𝓤) (A : Atoms 𝓤) (at-mem : 
   told : (κs : Lft × Unit {0}) (x : RefT (List BreakTime)) (i : ℕ) (r : BreakTime) → ent 𝓤 (ensured 𝓤 H A callee.ended (callee.clauses 𝓤 H A at-mem run) κs (x, (i, tt)) tt r) (fact 𝓤 (r ≡ getD (now x) i noBreakTime))
   told κs x i r = exE 𝓤 _ (λ ws. snd∗ 𝓤 (sem 𝓤 H A (lasts callee.ended κs (x, (i, tt)) ws)) (fact 𝓤 (r ≡ getD (now x) i noBreakTime)))
 
-module _ {M : Type 1} (𝓤 : URA M) (H : Heap 𝓤) (A : Atoms 𝓤) (W : Given 𝓤 H A) (at-mem : Memory → SProp 𝓤) (run : Routine → Fun 𝓤) (xs : List BreakTime) (i : ℕ) (was : Is R xs (aval xs ∷ [])) (gi : i < 2 ^ 64) (within : i < 64) where
+module _ {M : Type 1} (𝓤 : URA M) (H : Heap 𝓤) (A : Atoms 𝓤) (W : Given 𝓤 H A) (at-mem : Memory → SProp 𝓤) (run : Routine → Fun 𝓤) (xs : List BreakTime) (i : ℕ) (was : Is R xs (aval xs ∷ [])) (gi : i < 2 ^ 64) (within : i < mostCoordinates) where
   abbrev Arg : Type 0
   Arg = List BreakTime × (ℕ × Unit {0})
 
@@ -90,7 +91,7 @@ module _ {M : Type 1} (𝓤 : URA M) (H : Heap 𝓤) (A : Atoms 𝓤) (W : Given
   abbrev to-callee : ℕ → ℕ → GName → Callee 𝓤 H A at-mem run .Ghost
   to-callee α l δ = (((α ∷ [], tt), (fullShare, tt), tt, (x l δ, (i, tt)), (sliceVal (l, 0) (length xs) ∷ [], (vint w64 i ∷ [], tt))), tt)
 
-  goes-callee : length xs ≡ 64 → (α l : ℕ) (δ : GName) → ent 𝓤 (sep 𝓤 (A .lft (α ∷ []) fullShare) (sem 𝓤 H A (ShrSlice (named 0) (α ∷ []) T.the-row .own (x l δ) (sliceVal (l, 0) (length xs) ∷ [])))) (Callee 𝓤 H A at-mem run .pre (to-callee α l δ))
+  goes-callee : length xs ≡ mostCoordinates → (α l : ℕ) (δ : GName) → ent 𝓤 (sep 𝓤 (A .lft (α ∷ []) fullShare) (sem 𝓤 H A (ShrSlice (named 0) (α ∷ []) T.the-row .own (x l δ) (sliceVal (l, 0) (length xs) ∷ [])))) (Callee 𝓤 H A at-mem run .pre (to-callee α l δ))
   goes-callee len α l δ =
       qed W (‵ (flft (α ∷ []) fullShare) ∷ ‵ (ShrSlice (named 0) (α ∷ []) T.the-row .own (x l δ) (sliceVal (l, 0) (length xs) ∷ [])) ∷ []) ∵ says ! (subst (λ (m : ℕ). i < m) (sym len) within) $ nothing ! $ move ! (1 ∷ 0 ∷ []) $ join ! $ frame ! $
       nothing ! $ owned ! usize (Is usize) (uint-makes 𝓤 H A W w64) i _ (refl, gi) $ fjoin ! $ move ! (1 ∷ 0 ∷ []) $ fjoin ! $ done !
@@ -100,22 +101,22 @@ module _ {M : Type 1} (𝓤 : URA M) (H : Heap 𝓤) (A : Atoms 𝓤) (W : Given
       qed W (‵ (T.the-row .own r (w ∷ [])) ∷ []) ∵
       suffices ! _ (ends-at 𝓤 H A this.ended stayed (this.clauses 𝓤 H A at-mem run) W ((tt, tt, tt, a, at), tt) w r (tt, (tt, tt)) (tt, (tt, tt))) $ says ! e $
       nothing ! $ owned ! usize (Is usize) (uint-makes 𝓤 H A W w64) i _ (refl, gi) $ fjoin ! $
-      owned ! R (Is R) (array-makes 𝓤 H A W T.the-row (LL.makes T.the-type T′.the-plain 𝓤 H A) 64) xs _ was $ fjoin ! $ nothing ! $ done !
+      owned ! R (Is R) (array-makes 𝓤 H A W T.the-row (LL.makes T.the-type T′.the-plain 𝓤 H A) mostCoordinates) xs _ was $ fjoin ! $ nothing ! $ done !
 
   module _ (C : Calls 𝓤 H) (Λ : Loops 𝓤 H) (fm : FmC 𝓤 H (W .laws) C) (known : Triple 𝓤 (C #cauchy·break-at) (Callee 𝓤 H A at-mem run)) where
     walk : ent 𝓤 (onEntry 𝓤 H A this.signature tt tt a at) (WpFn 𝓤 H C Λ code.function (aval xs ∷ vint w64 i ∷ []) Post)
     walk =
         qed W (‵ ftrue ∷ ‵ (owns (R ∷ usize ∷ []) a at) ∷ []) ∵ enter ! C Λ code.function (aval xs ∷ vint w64 i ∷ []) _ $
         alloc1 ! (λ l₀. alloc1 ! (λ l₁. alloc1 ! (λ l₂. alloc1 ! (λ l₃. alloc1 ! (λ l₄. alloc1 ! (λ l₅. alloc0 ! $ params1 ! $
-        pass1 ! (init ! 8 refl (array-lawful 𝓤 H A W T.the-row (LL.lawful T.the-type T′.the-laws 𝓤 H A W) 64 .typed xs _ was .0)) $ pass1 ! (init ! 6 refl (tt, record { fits = gi })) $ pass0 ! $
+        pass1 ! (init ! 8 refl (array-lawful 𝓤 H A W T.the-row (LL.lawful T.the-type T′.the-laws 𝓤 H A W) mostCoordinates .typed xs _ was .0)) $ pass1 ! (init ! 6 refl (tt, record { fits = gi })) $ pass0 ! $
         move ! (13 ∷ []) $ fsplit ! $
-        assigns ! (of-opd ! (load ! (from ! (stop !)) (look ! 10 refl))) (from ! (stop !)) (init ! 6 refl (array-lawful 𝓤 H A W T.the-row (LL.lawful T.the-type T′.the-laws 𝓤 H A W) 64 .typed xs _ was .0)) $
+        assigns ! (of-opd ! (load ! (from ! (stop !)) (look ! 10 refl))) (from ! (stop !)) (init ! 6 refl (array-lawful 𝓤 H A W T.the-row (LL.lawful T.the-type T′.the-laws 𝓤 H A W) mostCoordinates .typed xs _ was .0)) $
         assigns ! (addr ! (from ! (stop !))) (from ! (stop !)) (init ! 4 refl (tt, tt)) $
         assigns ! (agg ! (and-then ! (load ! (from ! (stop !)) (look ! 4 refl)) (and-then ! (lit ! tt) (no-more !)))) (from ! (stop !)) (init ! 2 refl (tt, (tt, (record { fits = lit< tt }, tt)))) $
         -- the array is its elements side by side, which are lent for a new lifetime
         move ! (6 ∷ []) $ use1 W (‵ (cellAt fullShare (R .mir) (aval xs ∷ []) l₃ 0)) (W .laws .at-raw fullShare array l₃ 0 (aval xs)) $
         use2 W (‵ (partAt R fullShare xs l₃ 0)) (packs 𝓤 H A W xs l₃) $
-        use1 W (‵ (fsep (feq ℕ (length xs) 64) (row T.the-row fullShare xs l₃ 0))) (array-apart 𝓤 H A W T.the-row fullShare tt 64 xs l₃ 0) $ fsplit ! $ feqL ! (λ len.
+        use1 W (‵ (fsep (feq ℕ (length xs) mostCoordinates) (row T.the-row fullShare xs l₃ 0))) (array-apart 𝓤 H A W T.the-row fullShare tt mostCoordinates xs l₃ 0) $ fsplit ! $ feqL ! (λ len.
         feqI ! ℕ (length xs) (length xs) refl $ fjoin ! $
         rewrite ! 2 (λ (m : ℕ). ‵ (fat fullShare slice l₅ 0 (sliceVal (l₃, 0) m))) (sym len) refl $
         lft-new ! tt (λ α. move ! (1 ∷ []) $
@@ -129,8 +130,8 @@ module _ {M : Type 1} (𝓤 : URA M) (H : Heap 𝓤) (A : Atoms 𝓤) (W : Given
         split ! $ move ! (1 ∷ []) $ peeks ! T.the-row (Is T.the-row) (shows 𝓤 H A T.the-row) r (w ∷ []) (λ is.
         -- [what the break owns; the token and true; the lender's part; the rest; _5 at 4; _4 at 6; _3's rest at 8; _2 at 9; _1 at 11; _0 at 13; true]
         land ! (from ! (stop !)) (init ! 13 refl (LL.lawful T.the-type T′.the-laws 𝓤 H A W .typed r _ is .0)) $
-        move ! (1 ∷ []) $ split ! $ lft-end ! tt $ move ! (0 ∷ 3 ∷ []) $ lent-back ! tt $ fsplit ! $ drop ! $ feqI ! ℕ (length xs) 64 len $ fjoin ! $
-        use1 W (‵ (partAt R fullShare xs l₃ 0)) (array-whole 𝓤 H A W T.the-row fullShare 64 xs l₃ 0) $
+        move ! (1 ∷ []) $ split ! $ lft-end ! tt $ move ! (0 ∷ 3 ∷ []) $ lent-back ! tt $ fsplit ! $ drop ! $ feqI ! ℕ (length xs) mostCoordinates len $ fjoin ! $
+        use1 W (‵ (partAt R fullShare xs l₃ 0)) (array-whole 𝓤 H A W T.the-row fullShare mostCoordinates xs l₃ 0) $
         use1 W (‵ (fsep (cellAt fullShare (R .mir) (aval xs ∷ []) l₃ 0) (R .own xs (aval xs ∷ [])))) (unpacks 𝓤 H A W xs l₃) $ fsplit ! $
         use1 W (‵ (fat fullShare array l₃ 0 (aval xs))) (W .laws .raw-at fullShare array l₃ 0 (aval xs)) $
         -- [_3; what the array owns; true; what the break owns; the rest; _5 at 5; _4 at 7; _3's rest at 9; _2 at 10; _1 at 12; _0 at 14; true]
@@ -140,8 +141,8 @@ module _ {M : Type 1} (𝓤 : URA M) (H : Heap 𝓤) (A : Atoms 𝓤) (W : Given
 
 module _ {M : Type 1} (𝓤 : URA M) (H : Heap 𝓤) (A : Atoms 𝓤) (W : Given 𝓤 H A) (at-mem : Memory → SProp 𝓤) (run : Routine → Fun 𝓤) where
   walks : (C : Calls 𝓤 H) (Λ : Loops 𝓤 H) → FmC 𝓤 H (W .laws) C → Triple 𝓤 (C #cauchy·break-at) (Callee 𝓤 H A at-mem run) → Walks 𝓤 H A this.ended stayed (WpFn 𝓤 H C Λ code.function) (this.clauses 𝓤 H A at-mem run)
-  walks C Λ fm known = walked 𝓤 H A this.ended stayed (this.clauses 𝓤 H A at-mem run) (WpFn 𝓤 H C Λ code.function) (λ κs. (array-vals vals, (uint-vals w64, tt))) (λ κs. (array-tells T.the-row vals (LL.tells T.the-type T′.the-laws) 64, (uint-tells w64, tt)))
-      (λ κs qs bounds a g are. needs 𝓤 (a .1 .0 < 64) _ (λ within. walk 𝓤 H A W at-mem run (a .0) (a .1 .0) (are .0) (are .1 .0 .1) within C Λ fm known))
+  walks C Λ fm known = walked 𝓤 H A this.ended stayed (this.clauses 𝓤 H A at-mem run) (WpFn 𝓤 H C Λ code.function) (λ κs. (array-vals vals, (uint-vals w64, tt))) (λ κs. (array-tells T.the-row vals (LL.tells T.the-type T′.the-laws) mostCoordinates, (uint-tells w64, tt)))
+      (λ κs qs bounds a g are. needs 𝓤 (a .1 .0 < mostCoordinates) _ (λ within. walk 𝓤 H A W at-mem run (a .0) (a .1 .0) (are .0) (are .1 .0 .1) within C Λ fm known))
 
 meets : {M : Type 1} (𝓤 : URA M) (H : Heap 𝓤) (A : Atoms 𝓤) (W : Given 𝓤 H A) (at-mem : Memory → SProp 𝓤) (run : Routine → Fun 𝓤) (𝓣 : Tables 𝓤 H) → Triple 𝓤 (𝓣 .C #cauchy·break-at) (Callee 𝓤 H A at-mem run)
     → Meets 𝓤 H A this.signature (WpFn 𝓤 H (𝓣 .C) (𝓣 .Λ) code.function) (this.spec 𝓤 H A at-mem run)

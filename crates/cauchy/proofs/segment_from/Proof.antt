@@ -14,18 +14,37 @@ returns-2 : tie.Need-returns-2
 returns-2 c = let s = c .before .before .before .before .before .before .before .before .before .args in segment-fails₁ (s .h) (s .theta) (s .b) (s .p) (c .before .before .before .before .before .before .still .ensures) (c .before .before .before .before .before .if1 .left) (c .before .before .before .product .ensures) (c .if2 .taken)
 
 product-requires-2 : tie.Need-product-requires-2
-product-requires-2 c κs = (
-  rw (← c .before .before .before .area2 .given) at (c .before .before .before .before .before .before .before .before .before .before .pre .0),
-  prepared-kept _ (product-kept ProductD (c .before .before .before .before .product .ensures) (omega arith) (omega arith) .high) (c .before .before .before .before .before .before .before .before .before .before .pre .1),
-  omega arith,
-  omega arith,
-)
+product-requires-2 c κs =
+    let first = c .before .before .before .before .before in
+    let s = first .before .before .before .before .before .before .before in (
+      rw (← first .area2 .given) at (s .pre .0),
+      prepared-kept _ (product-kept ProductD (first .before .product .ensures) (omega arith) (omega arith) .high) (s .pre .1),
+      omega arith,
+      omega arith,
+    )
 
 returns-3 : tie.Need-returns-3
-returns-3 c = let s = c .before .before .before .before .before .before .before .before .before .before .before .before .before .before .args in segment-fails₂ (s .h) (s .theta) (s .b) (s .p) (c .before .before .before .before .before .before .before .before .before .before .before .still .ensures) (c .before .before .before .before .before .before .before .before .before .before .if1 .left) (c .before .before .before .before .before .before .before .before .product .ensures) (c .before .before .before .before .before .if2 .left) (c .before .before .before .product2 .ensures) (c .if3 .taken)
+returns-3 c =
+    let second = c .before .before .before in
+    let good = second .before .before .before .before in
+    let first = good .before .before .before in
+    let moves = first .before .before in
+    let s = moves .before .before .before .before .args in
+    segment-fails₂ (s .h) (s .theta) (s .b) (s .p) (moves .before .still .ensures) (moves .if1 .left) (first .product .ensures) (good .if2 .left)
+    (second .product2 .ensures) (c .if3 .taken)
 
 returns-4 : tie.Need-returns-4
-returns-4 c = let s = c .before .before .before .before .before .before .before .before .before .before .before .before .before .before .before .before .before .before .before .before .before .before .args in segment-goes (s .h) (s .theta) (s .b) (s .p) (c .before .before .before .before .before .before .before .before .before .before .before .before .before .before .before .before .before .before .before .still .ensures) (c .before .before .before .before .before .before .before .before .before .before .before .before .before .before .before .before .before .before .if1 .left) (c .before .before .before .before .before .before .before .before .before .before .before .before .before .before .before .before .product .ensures) (c .before .before .before .before .before .before .before .before .before .before .before .before .before .if2 .left) (c .before .before .before .before .before .before .before .before .before .before .before .product2 .ensures) (c .before .before .before .before .before .before .before .before .if3 .left) (c .before .before .before .before .before .before .slope .ensures) (c .before .before .before .before .dot .ensures) (c .before .before .by-slope .ensures)
+returns-4 c =
+    let slope = c .before .before .before .before in
+    let more = slope .before .before in
+    let second = more .before .before .before in
+    let curvature = second .before .before in
+    let good = curvature .before .before in
+    let first = good .before .before .before in
+    let moves = first .before .before in
+    let s = moves .before .before .before .before .args in
+    segment-goes (s .h) (s .theta) (s .b) (s .p) (moves .before .still .ensures) (moves .if1 .left) (first .product .ensures) (good .if2 .left)
+    (second .product2 .ensures) (more .if3 .left) (slope .slope .ensures) (curvature .dot .ensures) (c .before .before .by-slope .ensures)
 
 pub segment-from-spec : {M : Type 1} → statement M
 segment-from-spec =
@@ -38,10 +57,10 @@ segment-from-spec =
     (λ c κs. search needs)
     (λ c. search needs)
     returns-2
+    (λ c κs. search needs)
     product-requires-2
     (λ c. search needs)
     returns-3
-    (λ c κs. search needs)
     (λ c κs. search needs)
     (λ c κs. search needs)
     (λ c. search needs)

@@ -14,10 +14,10 @@ add-t4 c =
     omega arith
 
 returns : tie.Need-returns
-returns c = simp (← c .before .before .before .value-left .ensures, c .before .before .if1 .taken)
+returns c = simp (← c .before .before .value-left .ensures, c .before .if1 .taken)
 
 returns-2 : tie.Need-returns-2
 returns-2 c = simp (← c .before .value-left .ensures, c .if1 .left)
 
 pub charge-value-spec : {M : Type 1} → statement M
-charge-value-spec = tie.close (tie.spec (λ c κs. search needs) add-t4 (λ c. search needs) returns returns-2)
+charge-value-spec = tie.close (tie.spec (λ c κs. search needs) add-t4 returns returns-2)

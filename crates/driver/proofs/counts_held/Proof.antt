@@ -1,6 +1,5 @@
 -- `driver::counts_held` meets its contract: each count in turn. Assumes nothing.
 use borrow.Author.Tests.{lt-ltb, le-ltb}
-use Rattle.driver.proofs.Steps.{third}
 use Rattle.driver.proofs.counts_held.Statement.{statement}
 use Rattle.driver.proofs.counts_held.Tie as tie
 
@@ -8,10 +7,7 @@ returns : tie.Need-returns
 returns c = simp (le-ltb _ _ (c .if1 .taken))
 
 returns-2 : tie.Need-returns-2
-returns-2 c = simp (lt-ltb _ _ (c .before .before .if1 .left), le-ltb _ _ (c .if2 .taken))
-
-returns-3 : tie.Need-returns-3
-returns-3 c = third _ _ _ (lt-ltb _ _ (c .before .before .before .if1 .left)) (lt-ltb _ _ (c .before .if2 .left))
+returns-2 c = simp (lt-ltb _ _ (c .before .if1 .left))
 
 pub counts-held-spec : {M : Type 1} → statement M
-counts-held-spec = tie.close (tie.spec returns returns-2 returns-3)
+counts-held-spec = tie.close (tie.spec returns returns-2)

@@ -6,7 +6,7 @@ use borrow.Author.Needs.{needs}
 use denote.Ref.{now}
 use lib.ListN.{length}
 use Rattle.float.proofs.Constants.{one-is}
-use Rattle.driver.proofs.Steps.{Behind, ready-shape, unready-unheld, ready-marked, mark-behind}
+use Rattle.driver.proofs.Steps.{Behind, ready-shape, unready-unheld, ready-marked, mark-behind, mark-most}
 use Rattle.driver.proofs.is_held.Statement.{statement}
 use Rattle.driver.proofs.is_held.Tie as tie
 
@@ -16,25 +16,21 @@ place c = mark-behind _ _ (ready-shape _ _ (sym (c .before .is-ready .ensures) �
 returns : tie.Need-returns
 returns c = unready-unheld _ _ (sym (c .before .is-ready .ensures) ∙ not-true _ (c .if1 .taken))
 
+mark-at-requires : tie.Need-mark-at-requires
+mark-at-requires c κs = let b = place (c .before) in (b .n, b .m)
+
 mul-result : tie.Need-mul-result
-mul-result c = omega (arith, place (c .before .before) .m)
-
-add-result : tie.Need-add-result
-add-result c = omega (arith, place (c .before .before) .m)
-
-mul-result-2 : tie.Need-mul-result-2
-mul-result-2 c = omega (arith, place (c .before .before .before) .most)
-
-mul-result-3 : tie.Need-mul-result-3
-mul-result-3 c = omega (arith, place (c .before .before .before) .most)
+mul-result c =
+    let b = place (c .before .before) in
+    omega (arith, c .mark-at .ensures, mark-most (c .before .before .before .before .before .args .t .shape) (b .n) (b .m))
 
 read : tie.Need-shared-slice-read-result
-read c = place (c .before .before .before .before) .room
+read c = rw (c .before .mark-at .ensures) (place (c .before .before .before) .room)
 
 returns-2 : tie.Need-returns-2
 returns-2 c =
-    let b = c .before .before .before .before in
-    ready-marked _ _ _ one-is (sym (b .before .is-ready .ensures) ∙ not-false _ (b .if1 .left))
+    let b = c .before .before .before in
+    ready-marked _ _ _ _ (c .before .mark-at .ensures) one-is (sym (b .before .is-ready .ensures) ∙ not-false _ (b .if1 .left))
 
 pub is-held-spec : {M : Type 1} → statement M
-is-held-spec = tie.close (tie.spec (λ c κs. search needs) returns mul-result add-result mul-result-2 mul-result-3 read returns-2)
+is-held-spec = tie.close (tie.spec (λ c κs. search needs) returns mark-at-requires mul-result read returns-2)

@@ -7,9 +7,9 @@ pub suits-spec : {M : Type 1} → statement M
 suits-spec =
     tie.close
     (tie.spec (λ c. search needs) (λ c. search needs) (λ c. search needs) (λ c. search needs) (λ c. search needs) (λ c. search needs)
-    (λ c m. simp (c .enum-told .given .1))
-    (λ c m. simp (c .enum-told2 .given .1))
-    (λ c m. simp (c .enum-told3 .given .1))
-    (λ c m. simp (c .enum-told4 .given .1))
-    (λ c m. simp (c .enum-told5 .given .1))
-    (λ c m. simp (c .enum-told6 .given .1)))
+    (λ c ws. simp (c .enum-told .given .1))
+    (λ c ws. simp (c .enum-told2 .given .1))
+    (λ c ws. simp (c .enum-told3 .given .1))
+    (λ c ws. simp (c .enum-told4 .given .1))
+    (λ c ws. simp (c .enum-told5 .given .1))
+    (λ c ws. simp (c .enum-told6 .given .1)))

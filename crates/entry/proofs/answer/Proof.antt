@@ -3,24 +3,24 @@ use mathlib.Core.Path.{_∙_}
 use native.Mathlib.Omega.{arith}
 use borrow.Author.Needs.{needs}
 use Rattle.definition.specs.History.{History}
-use Rattle.definition.specs.Driver.{run}
+use Rattle.definition.specs.Book.{runOf}
 use Rattle.entry.proofs.Laws.{question-answered, asked-nothing, asked-put, fit-ended}
 use Rattle.entry.proofs.answer.Statement.{statement}
 use Rattle.entry.proofs.answer.Tie as tie
 
 returns : tie.Need-returns
-returns c l s rs h =
+returns c l b h =
     let t = c .before .before .before .before in
     let k = t .before .before .question in
-    let none = asked-nothing (run s rs) _ _ (k .result) (t .match .keys2) (k .ensures l .said (History.fit s rs) h ∙ question-answered _ s rs (h .accepted) (omega arith)) in
-    fit-ended (run s rs) _ _ _ _ none (c .before .before .ended .ensures l s rs h none)
+    let none = asked-nothing (runOf b) _ _ (k .result) (t .match .keys2) (k .ensures l .said (History.fit b) h ∙ question-answered _ b (h .accepted) (omega arith)) in
+    fit-ended (runOf b) _ _ _ _ none (c .before .before .ended .ensures l b h none)
 
 returns-2 : tie.Need-returns-2
-returns-2 c l s rs h =
+returns-2 c l b h =
     let t = c .before .before .before .before .before .before in
     let k = t .before .before .before .question in
-    asked-put (run s rs) _ _ (k .result) _ _ _ _ _ (t .asked .given .1)
-    (k .ensures l .said (History.fit s rs) h ∙ question-answered _ s rs (h .accepted) (omega arith))
+    asked-put (runOf b) _ _ (k .result) _ _ _ _ _ (t .asked .given .1)
+    (k .ensures l .said (History.fit b) h ∙ question-answered _ b (h .accepted) (omega arith))
     (c .before .before .put-point .ensures)
 
 pub answer-spec : {M : Type 1} → statement M

@@ -6,7 +6,7 @@ use Rattle.iteration.proofs.towards.Statement.{statement}
 use Rattle.iteration.proofs.towards.Tie as tie
 
 head-requires : tie.Need-head-requires
-head-requires c κs = first-room (c .before .before .pre .0)
+head-requires c κs = first-room (c .before .before .pre)
 
 returns : tie.Need-returns
 returns c = headed-along (c .before .before .before .before .before .before .head .ensures) (c .before .before .search-along .ensures)

@@ -2,7 +2,8 @@
 use mathlib.Core.Path.{refl, ap}
 use borrow.Author.Needs.{needs}
 use Rattle.definition.specs.Counters.{Counters}
-use Rattle.fit.proofs.Laws.{stepped, steps-from, small-as}
+use Rattle.area.proofs.Laws.{saved-refl}
+use Rattle.fit.proofs.Laws.{stepped, steps-from}
 use Rattle.measure.proofs.Laws.{completed, completed-nonfinite}
 use Rattle.measure.proofs.complete.Statement.{statement}
 use Rattle.measure.proofs.complete.Tie as tie
@@ -12,18 +13,18 @@ measured-requires c κs =
     let b = c .before .before .before .before in
     let e = b .gradient-charged .ensures in
     let p = b .before .before .before .pre in
-    (p .sound, small-as (ap (λ (k : Counters). k .nit) e) (ap (λ (k : Counters). k .drawn) e) (p .small), p .n)
+    (p .sound, rw (ap (λ (k : Counters). k .nit) e) (p .nit), p .n)
 
 returns : tie.Need-returns
 returns c =
     let b = c .before .before .before .before .before in
-    steps-from (c .before .before .measured .ensures) refl (record { options = refl; entries = refl; words = refl; settled = λ s. s })
+    steps-from (c .before .before .measured .ensures) refl (record { options = refl; extra = refl; settled = λ s. s })
     (completed _ _ (b .before .before .gradient-charged .ensures) (b .all-finite .ensures) (c .before .before .before .before .if1 .taken))
 
 returns-2 : tie.Need-returns-2
 returns-2 c =
     let b = c .before .before in
-    stepped (c .ended .ensures) refl (record { options = refl; entries = refl; words = refl; settled = λ s. s }) refl refl
+    stepped (c .ended .ensures) refl (record { options = refl; extra = refl; settled = λ s. s }) refl saved-refl
     (completed-nonfinite _ _ (b .before .before .gradient-charged .ensures) (b .all-finite .ensures) (c .before .if1 .left))
 
 pub complete-spec : {M : Type 1} → statement M

@@ -1,10 +1,11 @@
 -- `measure::judge_trial` meets its contract: the trial is learnt from and moved to, or the search goes on or has failed. Assumes nothing.
 use mathlib.Core.Path.{refl, ap}
 use borrow.Author.Needs.{needs}
+use Rattle.definition.specs.Machine.{Machine}
 use Rattle.definition.specs.Driver.{learn}
 use Rattle.search.specs.State.{nextOf}
 use Rattle.search.proofs.Laws.{settled-step}
-use Rattle.fit.proofs.Laws.{still, steps-as, steps-then, small-kept}
+use Rattle.fit.proofs.Laws.{still, steps-as, steps-then}
 use Rattle.measure.proofs.Laws.{judged-accepted, judged-on}
 use Rattle.measure.proofs.judge_trial.Statement.{statement}
 use Rattle.measure.proofs.judge_trial.Tie as tie
@@ -15,7 +16,7 @@ move-on-requires c κs =
     let b = c .before .before .before in
     let h = b .learn .ensures in
     let p = b .before .before .before .before .before .before .before .before .before .pre in
-    (rw (c .before .before .area .given) (h .sound _ (p .0)), small-kept h (λ m. refl) (p .1))
+    (rw (c .before .before .area .given) (h .sound _ (p .0)), rw (ap (λ (m : Machine). m .counters .nit) (h .is)) (p .1))
 
 returns : tie.Need-returns
 returns c =
@@ -35,7 +36,7 @@ try-step-requires : tie.Need-try-step-requires
 try-step-requires c κs =
     let b = c .before .before .before .before in
     let p = b .before .before .before .before .before .before .before .before .pre in
-    (p .0, p .1, settled-step (b .after-trial .ensures .1) (c .before .before .next .given .1))
+    (p .0, settled-step (b .after-trial .ensures .1) (c .before .before .next .given .1))
 
 returns-3 : tie.Need-returns-3
 returns-3 c =

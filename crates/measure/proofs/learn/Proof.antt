@@ -8,7 +8,7 @@ use lib.Ieee.{Float}
 use Rattle.definition.specs.Compact as C
 use Rattle.definition.specs.Machine as M
 use Rattle.definition.specs.Driver.{learn}
-use Rattle.area.specs.Area.{Vecs, view, ScratchOnly, differenceOf, Velocity, Displacement, Trial, X, TrialGradient, G}
+use Rattle.area.specs.Area.{Vecs, view, firstPair, ScratchOnly, differenceOf, Velocity, Displacement, Trial, X, TrialGradient, G}
 use Rattle.area.proofs.Laws.{scratch-refl, scratch-upd}
 use Rattle.compact.specs.declared.Shape.{Shape}
 use Rattle.compact.specs.State.{Updated, compactOf}
@@ -26,20 +26,22 @@ learn-at : (t : Fit) (v : Vecs) → let w = stepsIn (t .shape .n) v in
     M.withCompact (C.update (t .shape .n) (t .shape .m) (compactOf (t .shape) (t .theta) w) (w Velocity) (w Displacement)) (machine t v) ≡ learn (machine t v)
 unfolding learn differenceOf
 learn-at t v =
-    let a : Velocity < 16 = omega arith in
-    let b : Displacement < 16 = omega arith in
+    let a : Velocity < firstPair = omega arith in
+    let b : Displacement < firstPair = omega arith in
     rw (pairs-kept, pairs-kept)
 
 only-scratch : (n : ℕ) (v : Vecs) → ScratchOnly v (stepsIn n v)
 unfolding differenceOf
-only-scratch n v = scratch-upd 9 _ (omega arith) (omega arith) (scratch-upd 8 _ (omega arith) (omega arith) scratch-refl)
+only-scratch n v = scratch-upd Displacement _ (omega arith) (omega arith) (scratch-upd Velocity _ (omega arith) (omega arith) scratch-refl)
 
 learnt : {t : Fit} {g : Shape} {theta : Float} {w : Vecs} {a d : List Float} → w ≡ stepsIn (t .shape .n) (view a (t .shape .n))
     → Updated (t .shape) (t .theta) w g theta (view d (t .shape .n)) → Steps learn t a (withRing g theta t) d
 learnt {t} {a = a} e u =
     let v = view a (t .shape .n) in
+    let s = only-scratch (t .shape .n) v in
     steps-as
-    (compacted (u .n) (u .m) (u .sound) (rw e at (u .is)) (λ q l. u .kept q (omega arith) ∙ (λ i. e i q) ∙ only-scratch (t .shape .n) v .low q l))
+    (compacted (u .n) (u .m) (u .sound) (rw e at (u .is)) (λ q l. u .kept q (omega arith) ∙ (λ i. e i q) ∙ s .low q l)
+    (λ q l m. u .kept q m ∙ (λ i. e i q) ∙ s .free q l m))
     (learn-at t v)
 
 returns : tie.Need-returns

@@ -1,7 +1,7 @@
 -- `measure::measured` meets its contract: each place by the definition's clause for it. Assumes nothing.
 use mathlib.Core.Path.{refl}
 use borrow.Author.Needs.{needs}
-use Rattle.fit.proofs.Laws.{steps-then, small-kept}
+use Rattle.fit.proofs.Laws.{steps-then}
 use Rattle.measure.proofs.measured.Statement.{statement}
 use Rattle.measure.proofs.measured.Tie as tie
 
@@ -10,7 +10,7 @@ iterate-requires c κs =
     let b = c .before .before .before in
     let h = b .hold .ensures in
     let p = b .before .before .before .before .before .pre in
-    (rw (c .before .before .area .given) (h .sound _ (p .0)), small-kept h (λ m. refl) (p .1), rw (h .n) (p .2))
+    (rw (c .before .before .area .given) (h .sound _ (p .0)), rw (h .n) (p .2))
 
 returns : tie.Need-returns
 returns c =

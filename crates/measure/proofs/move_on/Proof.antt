@@ -15,7 +15,7 @@ returns c =
     rw (c .with-phase .ensures)
     (steps-as
     (steps-then {G = g} (h .hold .ensures)
-    (still {F = g} (record { shape = refl; kept = record { options = refl; entries = refl; words = refl; settled = λ s. s }; is = λ v. refl }) refl))
+    (still {F = g} (record { shape = refl; kept = record { options = refl; extra = refl; settled = λ s. s }; is = λ v. refl }) refl))
     (moving _ (k .iteration-charged .ensures)))
 
 pub move-on-spec : {M : Type 1} → statement M

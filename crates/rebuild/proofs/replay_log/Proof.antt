@@ -1,18 +1,16 @@
 -- `rebuild::replay_log` meets its contract. Assumes nothing.
-use mathlib.Core.Path.{_≡_, refl, sym, subst}
+use mathlib.Core.Path.{refl, sym, subst}
 use mathlib.Core.Bool.{true, false≢true}
 use borrow.Author.Needs.{needs}
-use Prim.Native.Nat.{ℕ, _≤_, _<_}
+use Prim.Native.Nat.{_≤_, _<_}
 use native.Mathlib.Omega.{arith}
 use lib.ListN.{length, take}
 use lib.Seq.{length-take-le}
-use Rattle.area.specs.Area.{view}
-use Rattle.opening.specs.Opened.{setupAt}
-use Rattle.driver.specs.Replies.{mostWords, isReady}
+use Rattle.driver.specs.Replies.{mostWords}
 use Rattle.driver.proofs.Laws.{ready-facts}
 use Rattle.replay.specs.declared.Replayed.{Replayed}
-use Rattle.rebuild.specs.Built.{Markable, Stays}
-use Rattle.rebuild.proofs.Built.{ready-room, opened-ready, opened-here, markable-all, stays-by}
+use Rattle.rebuild.specs.Built.{Markable}
+use Rattle.rebuild.proofs.Built.{ready-room, opened-ready, markable-all, stays-by}
 use Rattle.rebuild.proofs.replay_log.Statement.{statement}
 use Rattle.rebuild.proofs.replay_log.Tie as tie
 
@@ -23,10 +21,9 @@ replay-requires : tie.Need-replay-requires
 replay-requires c κs =
     let s = c .before .before .before .before .before .before .before .before .before in
     let r = c .before .before .before .before .reset in
-    let long : length (r .last .1 .0) ≡ length (s .args .area .now) = search needs in
-    let k = opened-here long (r .ensures) in (
+    let k = r .ensures in (
       record { logged = λ e. s .pre .1; recorded = λ e. absurd (false≢true e) },
-      opened-ready (s .args .fit) (subst (λ (i : ℕ). isReady (s .args .fit) i ≡ true) (sym long) (s .pre .0)) k,
+      opened-ready (s .args .fit) (s .pre .0) k,
       k .entries,
       k .words,
     )
@@ -45,14 +42,11 @@ returns c =
     let p = c .before .before .before .before .before .before .before .replay in
     let all = c .before .before .before .before .all-of in
     let q = c .before .before .settle in
-    let long : length (r .last .1 .0) ≡ length (a .area .now) = search needs in
-    let ws = take (a .fit .words) (a .log .now) in
-    let all-words = length-take-le (a .fit .words) (a .log .now) (s .pre .1) in
+    let ws = take (a .fit .extra .words) (a .log .now) in
+    let all-words = length-take-le (a .fit .extra .words) (a .log .now) (s .pre .1) in
     let fits : length ws ≤ length (a .log .now) = omega (arith, all-words) in
     let few : length ws < mostWords = omega (arith, all-words, ready-facts (a .fit) (length (a .area .now)) (s .pre .0) .words) in
-    subst
-    (λ (i : ℕ). Stays (setupAt (a .fit .options) (view (a .area .now) (a .fit .shape .n))) ws (a .count) (length (a .log .now)) i (all .result) (q .last .0)) long
-    (stays-by (opened-here long (r .ensures)) {ws = ws} few fits (p .result) (p .last .1 .0) (q .last .0) (p .ensures) (all .result) (all .ensures) (q .ensures))
+    stays-by (r .ensures) {ws = ws} few fits (p .result) (p .last .1 .0) (q .last .0) (p .ensures) (all .result) (all .ensures) (q .ensures)
 
 pub replay-log-spec : {M : Type 1} → statement M
 replay-log-spec = tie.close (tie.spec reset-requires (λ c. refl) replay-requires (λ c κs. search needs) settle-requires (λ c. search needs) returns)

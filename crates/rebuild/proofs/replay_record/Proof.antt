@@ -1,14 +1,10 @@
 -- `rebuild::replay_record` meets its contract. Assumes nothing.
-use mathlib.Core.Path.{_≡_, sym, subst}
+use mathlib.Core.Path.{_≡_, refl, sym}
 use mathlib.Core.Bool.{true, false, false≢true}
-use Prim.Native.Nat.{ℕ, _-_}
 use native.Mathlib.Omega.{arith}
 use borrow.Author.Needs.{needs}
 use lib.ListN.{length}
-use Rattle.definition.specs.Record.{setupIn}
-use Rattle.record.specs.Records.{wordsIn}
 use Rattle.record.proofs.Floats.{opened-room}
-use Rattle.rebuild.specs.Built.{entriesIn, Builds}
 use Rattle.rebuild.proofs.Built.{markable, builds}
 use Rattle.rebuild.proofs.Recorded.{opens-room, entries-within, record-opened, record-ready}
 use Rattle.rebuild.proofs.replay_record.Statement.{statement}
@@ -37,10 +33,9 @@ replay-requires c κs =
     let s = c .before .before .before .before .before .before .before .before .before .before .before .before .before in
     let r = c .before .before .before .before .before .before .begin-from in
     let a = s .args in
-    let long : length (r .last .1 .0) ≡ length (a .area .now) = search needs in
-    let k = record-opened (a .input .now) (length (a .area .now)) (a .o) (a .f) (s .pre) (c .before .before .before .before .before .before .before .before .before .vectors .ensures) long (r .ensures) in (
+    let k = record-opened (a .input .now) (length (a .area .now)) (a .o) (a .f) (s .pre) (c .before .before .before .before .before .before .before .before .before .vectors .ensures) (r .ensures) in (
       record { logged = λ e. absurd (false≢true (sym e)); recorded = λ e. entries-within (a .input .now) (length (a .area .now)) (a .o) (a .f) (s .pre) },
-      record-ready (a .input .now) (length (a .area .now)) (a .o) (a .f) (s .pre) long k,
+      record-ready (a .input .now) (length (a .area .now)) (a .o) (a .f) (s .pre) refl k,
       k .entries,
       k .words,
     )
@@ -55,10 +50,8 @@ returns c =
     let p = c .before .before .before .before .before .before .replay in
     let q = c .before .before .settle in
     let a = s .args in
-    let long : length (r .last .1 .0) ≡ length (a .area .now) = search needs in
-    let k = record-opened (a .input .now) (length (a .area .now)) (a .o) (a .f) (s .pre) (c .before .before .before .before .before .before .before .before .before .before .before .before .before .before .before .before .vectors .ensures) long (r .ensures) in
-    subst (λ (i : ℕ). Builds (setupIn (wordsIn (a .input .now) (a .f))) (entriesIn (a .input .now) (a .f)) (a .f .words - a .f .setup) (length (a .log .now)) i (p .result) (q .last .0)) long
-    (builds k (p .result) (p .last .1 .0) (q .last .0) (p .ensures) (q .ensures))
+    let k = record-opened (a .input .now) (length (a .area .now)) (a .o) (a .f) (s .pre) (c .before .before .before .before .before .before .before .before .before .before .before .before .before .before .before .before .vectors .ensures) (r .ensures) in
+    builds k (p .result) (p .last .1 .0) (q .last .0) (p .ensures) (q .ensures)
 
 pub replay-record-spec : {M : Type 1} → statement M
 replay-record-spec =

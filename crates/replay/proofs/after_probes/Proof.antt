@@ -13,7 +13,7 @@ returns-2 c = Run.begun
 
 run-probes-requires : tie.Need-run-probes-requires
 run-probes-requires c κs =
-    let i = c .before .before in
+    let i = c .before .before .before in
     let s = i .before .before .before .before .before .before .before .before in
     let p = s .pre in
     (p .0, p .1, p .2, p .3, i .if1 .left, at-probe (s .args .t) _ (i .before .before .before .phase .given .1))

@@ -16,7 +16,7 @@ abbrev Inv-loop : tie.InvT-loop
 Inv-loop area₀ s log input limit room f₀ area f = Reached f₀ area₀ (sourceWords s log input) limit room f area
 
 abbrev μ-loop : tie.MeasureT-loop
-μ-loop area₀ s log input limit room f₀ area f = s .words - f .words
+μ-loop area₀ s log input limit room f₀ area f = s .words - f .extra .words
 
 loop-holds : tie.Need-loop-holds Inv-loop μ-loop
 loop-holds c = let p = c .before .before .before .pre in reached-first _ _ _ _ _ (p .1) (p .2) (p .3)

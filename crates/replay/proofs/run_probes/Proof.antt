@@ -12,7 +12,7 @@ abbrev Inv-loop : tie.InvT-loop
 Inv-loop t w area₀ s log input limit room q₀ area q = RunTo (sourceWords s log input) limit room t w area₀ q area
 
 abbrev μ-loop : tie.MeasureT-loop
-μ-loop t w area₀ s log input limit room q₀ area q = s .words - q .words
+μ-loop t w area₀ s log input limit room q₀ area q = s .words - q .extra .words
 
 loop-holds : tie.Need-loop-holds Inv-loop μ-loop
 loop-holds c = let p = c .before .before .before .pre in run-first (p .4) (p .5)

@@ -6,14 +6,14 @@ use Rattle.replies.proofs.Runs.{asked-on}
 use Rattle.replies.proofs.asked.Statement.{statement}
 use Rattle.replies.proofs.asked.Tie as tie
 
-returns-3 : tie.Need-returns-3
-returns-3 c =
-    let h = c .before in
-    let s = h .before .before .before .before .before .before .before in
+returns-2 : tie.Need-returns-2
+returns-2 c =
+    let h = c .before .before in
+    let s = h .before .before .before .before .before in
     let a = s .args in
     asked-on (a .q) (a .t) _ (a .i) (a .side) (a .right) (s .pre) (sym (ap chargeOf (h .charge .given .1)) ∙ h .before .before .value-charged .ensures)
 
 pub asked-spec : {M : Type 1} → statement M
 asked-spec =
     tie.close
-    (tie.spec (λ c. search needs) (λ c κs. search needs) (λ c. search needs) (λ c. search needs) (λ c. search needs) returns-3)
+    (tie.spec (λ c κs. search needs) (λ c. search needs) (λ c. search needs) (λ c. search needs) returns-2)

@@ -1,13 +1,10 @@
 -- `replies::both_probed` meets its contract: right of the coordinate, then left of it. Assumes nothing.
 use mathlib.Core.Path.{refl}
 use borrow.Author.Needs.{needs}
-use Rattle.fit.proofs.Laws.{turns-then, still, small-turned}
+use Rattle.fit.proofs.Laws.{turns-then, still}
 use Rattle.replies.proofs.Laws.{component-as}
 use Rattle.replies.proofs.both_probed.Statement.{statement}
 use Rattle.replies.proofs.both_probed.Tie as tie
-
-ask-value-requires : tie.Need-ask-value-requires
-ask-value-requires c κs = small-turned (c .with-right .ensures) (λ m. refl) (c .before .before .before .before .pre .0 .small) .drawn
 
 returns : tie.Need-returns
 returns c = rw (c .before .before .enum-told .given .1) (still (turns-then (c .before .with-right .ensures) (c .ask-value .ensures)) refl)
@@ -23,7 +20,7 @@ both-probed-spec =
     (tie.spec
     (λ c. search needs)
     (λ c κs. search needs)
-    ask-value-requires
+    (λ c κs. search needs)
     (λ c. search needs)
     (λ c κs. search needs)
     (λ c κs. search needs)

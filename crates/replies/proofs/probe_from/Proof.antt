@@ -76,15 +76,15 @@ probe-from-spec =
     (λ c. search needs)
     loop-again
     (λ c. search needs)
-    (λ c κs. c .before .before .before .before .before .before .before .pre .0 .small .drawn)
+    (λ c κs. search needs)
     (λ c. search needs)
     returns
     (λ c. search needs)
-    (λ c κs. c .before .before .before .before .before .before .before .pre .0 .small .drawn)
+    (λ c κs. search needs)
     (λ c. search needs)
     returns-2
     (λ c. search needs)
-    (λ c κs. c .before .before .before .before .before .before .before .pre .0 .small .drawn)
+    (λ c κs. search needs)
     (λ c. search needs)
     returns-3
     complete-requires

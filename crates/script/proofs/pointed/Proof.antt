@@ -11,14 +11,14 @@ returns c =
     let k = c .before .before .before in
     λ l f b.
     read-shows _ _ _ _ _ _ _ (simp (eq-eqb _ _ (k .before .before .if1 .taken)))
-    (shown-asked (k .question .result) _ _ _ f b (c .asked-as .ensures)) (λ h. refl) tt (k .question .ensures l)
+    (shown-asked (k .question .result) _ _ _ f b (c .asked-as .ensures)) refl tt (k .question .ensures l)
 
 returns-2 : tie.Need-returns-2
 returns-2 c =
     let k = c .before .before .before in
     λ l f b.
     read-shows _ _ _ _ _ _ _ (simp (ne-eqb _ _ (k .before .before .if1 .left)))
-    (shown-told (k .report .result) _ _ _ f b (c .told-as .ensures)) (λ h. refl) tt (k .report .ensures l)
+    (shown-told (k .report .result) _ _ _ f b (c .told-as .ensures)) refl tt (k .report .ensures l)
 
 pub pointed-spec : {M : Type 1} → statement M
 pointed-spec =

@@ -19,14 +19,14 @@ returns-3 c =
     let k = c .before .before .before in
     let t = k .before .before in
     read-shows _ _ _ _ _ _ _ (simp (le-ltb _ _ (t .before .before .if1 .left), ne-eqb _ _ (t .before .if2 .left), eq-eqb _ _ (t .if3 .taken)))
-    (shown-entered (k .entry .result) _ _ _ _ _ (c .entered-as .ensures)) (λ h. refl) tt (k .entry .ensures)
+    (shown-entered (k .entry .result) _ _ _ _ _ (c .entered-as .ensures)) refl tt (k .entry .ensures)
 
 returns-4 : tie.Need-returns-4
 returns-4 c =
     let k = c .before .before .before in
     let t = k .before .before in
     read-shows _ _ _ _ _ _ _ (simp (le-ltb _ _ (t .before .before .if1 .left), ne-eqb _ _ (t .before .if2 .left), ne-eqb _ _ (t .if3 .left)))
-    (shown-saved (k .save .result) _ _ _ _ _ (c .saved-as .ensures)) (λ h. refl) tt (k .save .ensures)
+    (shown-saved (k .save .result) _ _ _ _ _ (c .saved-as .ensures)) refl tt (k .save .ensures)
 
 pub read-spec : {M : Type 1} → statement M
 read-spec =

@@ -9,13 +9,13 @@ use Rattle.trial.proofs.search_along.Statement.{statement}
 use Rattle.trial.proofs.search_along.Tie as tie
 
 begin-search-requires : tie.Need-begin-search-requires
-begin-search-requires c κs = first-room (c .before .before .pre .0)
+begin-search-requires c κs = first-room (c .before .before .pre)
 
 try-step-requires : tie.Need-try-step-requires
 try-step-requires c κs =
     let h = c .before .before .before .before in
     let p = h .before .before .before .pre in
-    (p .0, p .1, settled-step (h .begin-search .ensures .1) (c .before .before .next .given .1))
+    (p, settled-step (h .begin-search .ensures .1) (c .before .before .next .given .1))
 
 returns : tie.Need-returns
 returns c =

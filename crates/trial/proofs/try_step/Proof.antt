@@ -4,7 +4,8 @@ use mathlib.Core.Path.{refl}
 use native.Mathlib.Omega.{arith}
 use borrow.Author.Needs.{needs}
 use Rattle.definition.specs.Driver.{tryStep}
-use Rattle.area.specs.Area.{Trial}
+use Rattle.area.specs.Area.{firstPair, Trial}
+use Rattle.area.proofs.Laws.{saved-refl, saved-upd}
 use Rattle.fit.proofs.Laws.{stepped, pairs-kept, first-room}
 use Rattle.trial.proofs.try_step.Statement.{statement}
 use Rattle.trial.proofs.try_step.Tie as tie
@@ -15,8 +16,8 @@ put-trial-requires c κs = first-room (c .before .before .pre .0)
 returns : tie.Need-returns
 unfolding tryStep
 returns c =
-    stepped (c .ask-value .ensures) refl (record { options = refl; entries = refl; words = refl; settled = λ s. c .before .before .before .before .before .before .pre .2 }) (c .before .before .before .put-trial .ensures) refl
-    (let l : Trial < 16 = omega arith in rw pairs-kept)
+    stepped (c .ask-value .ensures) refl (record { options = refl; extra = refl; settled = λ s. c .before .before .before .before .before .before .pre .1 }) (c .before .before .before .put-trial .ensures) (saved-upd Trial _ (omega arith) (λ e. omega arith) saved-refl)
+    (let l : Trial < firstPair = omega arith in rw pairs-kept)
 
 pub try-step-spec : {M : Type 1} → statement M
 try-step-spec = tie.close (tie.spec put-trial-requires (λ c κs. search needs) (λ c. search needs) returns)

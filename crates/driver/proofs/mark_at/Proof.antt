@@ -1,0 +1,12 @@
+-- `driver::mark_at` meets its contract: no product wraps. Assumes nothing.
+use native.Mathlib.Omega.{arith}
+use borrow.Author.Needs.{needs}
+use Rattle.driver.proofs.Steps.{mark-most}
+use Rattle.driver.proofs.mark_at.Statement.{statement}
+use Rattle.driver.proofs.mark_at.Tie as tie
+
+mul-result-2 : tie.Need-mul-result-2
+mul-result-2 c = let s = c .before .before in omega (arith, mark-most (s .args .h) (s .pre .0) (s .pre .1))
+
+pub mark-at-spec : {M : Type 1} → statement M
+mark-at-spec = tie.close (tie.spec (λ c. search needs) (λ c. search needs) mul-result-2 (λ c. search needs))
