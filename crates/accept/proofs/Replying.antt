@@ -2,10 +2,10 @@
 use Prim.Native.Nat.{ℕ, _+_, _≤_, _<_}
 use native.Mathlib.Omega.{arith}
 use mathlib.Core.Path.{_≡_, refl, sym, ap, _∙_}
-use mathlib.Core.Bool.{Bool, true, false, not, false≢true}
+use mathlib.Core.Bool.{true, false, not, false≢true}
 use mathlib.Core.List.{List, map}
 use mathlib.Core.Option.{none}
-use borrow.Author.Tests.{lt-ltb, le-ltb, ltb-false, eq-eqb, ne-eqb, eqb-true, not-false}
+use borrow.Author.Tests.{lt-ltb, le-ltb, ltb-false, ne-eqb, eqb-true, not-false}
 use lib.Dec.{eqb, ltb}
 use lib.ListN.{length, take, drop, replicate, length-replicate}
 use lib.Seq.{take-length}

@@ -2,7 +2,7 @@
 use Prim.Native.Nat.{ℕ}
 use native.Mathlib.Omega.{arith}
 use mathlib.Core.Path.{_≡_, refl}
-use mathlib.Core.List.{List, []}
+use mathlib.Core.List.{List}
 use mathlib.Core.Option.{none, some}
 use borrow.Author.Tests.{ltb-false}
 use lib.Dec.{ltb}
@@ -13,11 +13,10 @@ use Rattle.definition.specs.Problem.{_then_, validate, areaNeeded}
 use Rattle.definition.specs.Log.{logWords}
 use Rattle.definition.specs.Book.{openedBook}
 use Rattle.definition.specs.Record.{checkArea}
-use Rattle.definition.proofs.Accepted.{both-passed, test-failed}
+use Rattle.definition.proofs.Accepted.{both-passed, test-failed, accepted-in-limits}
 use Rattle.area.proofs.Sizes.{behind}
 use Rattle.problem.specs.Setups.{setupIn, placesIn}
 use Rattle.problem.specs.declared.Options.{Options}
-use Rattle.problem.proofs.Accepted.{accepted}
 use Rattle.fit.specs.declared.Fit.{Fit}
 use Rattle.opening.specs.Opened.{Room, Fits, Opened}
 use Rattle.driver.specs.Replies.{Marks}
@@ -30,10 +29,10 @@ pub start-room : (o : Options) (x0 l u : List Float) (size k : ℕ)
 start-room o x0 l u size k e =
     let s = setupIn o x0 l u in
     let p = both-passed (validate s) (checkArea (record { area = size; log = k }) s) e in
-    let h = accepted s (p .0) in
+    let h = accepted-in-limits s (p .0) in
     let z = ltb-false size (areaNeeded s) (test-failed (ltb size (areaNeeded s)) _ (p .1)) in (
-      record { all = omega (arith, z, behind (length x0) (placesIn o)); few = h .pairs-high; some = h .pairs-low },
-      record { lower = λ b. rw b at (h .lower-long); upper = λ b. rw b at (h .upper-long) },
+      record { all = omega (arith, z, behind (length x0) (placesIn o)); few = h .pairs .1; some = h .pairs .0 },
+      record { lower = λ b. rw b at (h .lower); upper = λ b. rw b at (h .upper) },
     )
 
 -- the fit just opened

@@ -4,12 +4,12 @@ use mathlib.Core.Path.{_≡_}
 use mathlib.Core.Bool.{true}
 use mathlib.Core.List.{List, [], _++_, map}
 use lib.Dec.{ltb}
-use lib.ListN.{length, take, drop, getD}
+use lib.ListN.{length, take, drop}
 use lib.Ieee.{Float}
 use Rattle.definition.specs.Number.{toFloat}
 use Rattle.definition.specs.Problem.{Check, refuse, when, _then_}
 use Rattle.definition.specs.Machine as M
-use Rattle.definition.specs.Machine.{checkDue}
+use Rattle.definition.specs.Machine.{replyKind, checkDue}
 use Rattle.definition.specs.Driver.{answer}
 use Rattle.definition.specs.Log.{entryWords}
 use Rattle.area.specs.Area.{Vecs, view, upd, Saved, TrialGradient}
@@ -23,9 +23,9 @@ use Rattle.driver.specs.declared.Reply.{Reply}
 use Rattle.driver.specs.declared.Reply.the-variants as R
 use Rattle.replay.specs.Taken.{replied}
 
--- the first word of a reply's entry
+-- the kind of a reply, whatever words it brings
 abbrev pub entryKind : Reply → ℕ
-entryKind r = getD (entryWords (replied r [])) 0 0
+entryKind r = replyKind (replied r [])
 
 -- ws in place of the words from `at` on
 abbrev pub written : ℕ → List ℕ → List ℕ → List ℕ

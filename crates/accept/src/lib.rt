@@ -7,7 +7,7 @@ ghost use Prim.Native.Nat.{ℕ, _+_, _-_, _*_, _≤_};
 ghost use lib.Dec.{ltb};
 ghost use lib.Ieee.{Float};
 ghost use lib.ListN.{length};
-ghost use Rattle.definition.specs.Problem.{refuse, when, _then_, validate, mostCoordinates, areaWords};
+ghost use Rattle.definition.specs.Problem.{refuse, when, _then_, validate, mostCoordinates, mostPairs, areaWords};
 ghost use Rattle.definition.specs.Machine.{checkLength, checkDue};
 ghost use Rattle.definition.specs.Log.{entryWords};
 ghost use Rattle.definition.specs.Book.{openedBook};
@@ -28,7 +28,7 @@ use problem::Options;
 
 // The area is too short for the setup.
 fn check_area(o: Options, n: usize, size: usize) -> Checked
-    requires { ⌜ (n ≤ mostCoordinates) × (placesIn o ≤ 16) ⌝ }
+    requires { ⌜ (n ≤ mostCoordinates) × (placesIn o ≤ mostPairs) ⌝ }
     ensures { λ r. ⌜ (let k = areaWords n (placesIn o) in checkOf r ≡ when (ltb size k) (refuse 11 k 0)) ⌝ }
 {
     let needed = area::words(n, problem::places(o));

@@ -34,24 +34,26 @@ s-column : (h : Shape) (theta : Float) (v : Vecs) (k i : ℕ) → h .pairs ≤ k
 unfolding columnWord
 s-column h theta v k i l = rw (pairs-count h v, le-ltb k (h .pairs) l)
 
-pub y-laid : (h : Shape) (theta : Float) (a : List Float) (k p : ℕ) (b : Vecs) → k < h .pairs → Slot h k p (length a)
-    → b ≡ copyOf (columnSlot h k) (p + 1) (view a (h .n))
+pub y-laid : (h : Shape) (theta : Float) (a : List Float) (k p to : ℕ) (b : Vecs) → k < h .pairs → Slot h k p (length a) → to ≡ columnSlot h k
+    → b ≡ copyOf to (p + 1) (view a (h .n))
     → b ≡ upd (view a (h .n)) (columnSlot h k) (tab (h .n) (columnWord (compactOf h theta (view a (h .n))) k))
-y-laid h theta a k p b l s e =
+y-laid h theta a k p to b l s d e =
     let v = view a (h .n) in
     e
+    ∙ ap (λ (j : ℕ). copyOf j (p + 1) v) d
     ∙ ap (upd v (columnSlot h k))
     (sym (tab-word (h .n) (v (p + 1)) (length-view a (h .n) (p + 1) (s .second)))
     ∙ ap (λ (y : List Float). tab (h .n) (word y)) (s .y v)
     ∙ (λ t. tab (h .n) (λ (i : ℕ). sym (y-column h theta v k i l) t)))
 
-pub s-laid : (h : Shape) (theta : Float) (a : List Float) (k p : ℕ) (b : Vecs) → h .pairs ≤ k → Slot h (k - h .pairs) p (length a)
-    → b ≡ rowwise (h .n) (columnSlot h k) (λ (i : ℕ) w. times theta (w p)) (view a (h .n))
+pub s-laid : (h : Shape) (theta : Float) (a : List Float) (k p to : ℕ) (b : Vecs) → h .pairs ≤ k → Slot h (k - h .pairs) p (length a) → to ≡ columnSlot h k
+    → b ≡ rowwise (h .n) to (λ (i : ℕ) w. times theta (w p)) (view a (h .n))
     → b ≡ upd (view a (h .n)) (columnSlot h k) (tab (h .n) (columnWord (compactOf h theta (view a (h .n))) k))
 unfolding rowwise
-s-laid h theta a k p b l s e =
+s-laid h theta a k p to b l s d e =
     let v = view a (h .n) in
     e
+    ∙ ap (λ (j : ℕ). upd v j (tab (h .n) (λ (i : ℕ). times theta (word (v p) i)))) d
     ∙ ap (upd v (columnSlot h k))
     (ap (λ (x : List Float). tab (h .n) (λ (i : ℕ). times theta (word x i))) (s .s v)
     ∙ (λ t. tab (h .n) (λ (i : ℕ). sym (s-column h theta v k i l) t)))
@@ -94,10 +96,11 @@ pub laid-word : {h : Shape} {theta : Float} {v : Vecs} → Laid h theta v → (k
 laid-word {h} {theta} {v} r k i l m =
     ap (λ (x : List Float). word x i) (r .is k l) ∙ tab-get (h .n) (columnWord (compactOf h theta v) k) i nan m
 
-pub laid-dot : {h : Shape} {theta : Float} {v : Vecs} → Laid h theta v → (k : ℕ) (w : List Float) → k < 2 * h .pairs
-    → dot (h .n) (v (columnSlot h k)) w ≡ columnDot (h .n) (compactOf h theta v) k w
-laid-dot {h} {theta} {v} r k w l =
-    fold-same (h .n) (λ i s. plus s (times (word (v (columnSlot h k)) i) (word w i))) (λ i s. plus s (times (columnWord (compactOf h theta v) k i) (word w i))) negZero
+pub laid-dot : {h : Shape} {theta : Float} {v : Vecs} → Laid h theta v → (k q : ℕ) (w : List Float) → k < 2 * h .pairs → q ≡ columnSlot h k
+    → dot (h .n) (v q) w ≡ columnDot (h .n) (compactOf h theta v) k w
+laid-dot {h} {theta} {v} r k q w l e =
+    ap (λ (j : ℕ). dot (h .n) (v j) w) e
+    ∙ fold-same (h .n) (λ i s. plus s (times (word (v (columnSlot h k)) i) (word w i))) (λ i s. plus s (times (columnWord (compactOf h theta v) k i) (word w i))) negZero
     (λ i s m. ap (λ (x : Float). plus s (times x (word w i))) (laid-word r k i l m))
 
 -- ---- vector p less the first k columns with their weights z: b is a with that vector
@@ -114,12 +117,12 @@ unfolding foldTo
 lessened-none {h} {z} {p} {a} l = record { upto = omega arith; is = upd-none a p (tab (h .n) (word (a p))) (sym (tab-word (h .n) (a p) l)) }
 
 pub lessened-more : {h : Shape} {z : List Float} {p k : ℕ} {a b d : Vecs} → Lessened h z p a b k → p < firstPair → k < 2 * h .pairs
-    → d ≡ rowwise (h .n) p (λ (i : ℕ) v. minus (v p) (times (word z k) (v (columnSlot h k)))) b → Lessened h z p a d (k + 1)
+    → (q : ℕ) → q ≡ columnSlot h k → d ≡ rowwise (h .n) p (λ (i : ℕ) v. minus (v p) (times (word z k) (v q))) b → Lessened h z p a d (k + 1)
 unfolding rowwise foldTo
-lessened-more {h} {z} {p} {k} {a} {b} {d} r g l e =
+lessened-more {h} {z} {p} {k} {a} {b} {d} r g l q c e =
     let x = tab (h .n) (lessOf h z p a k) in
     let made : b p ≡ x = (λ i. r .is i p) ∙ upd-same a p x in
-    let column : b (columnSlot h k) ≡ a (columnSlot h k) = (λ i. r .is i (columnSlot h k)) ∙ upd-other a p (columnSlot h k) x (λ e. omega arith) in
+    let column : b q ≡ a (columnSlot h k) = ap b c ∙ (λ i. r .is i (columnSlot h k)) ∙ upd-other a p (columnSlot h k) x (λ e. omega arith) in
     record {
       upto = omega arith;
       is =

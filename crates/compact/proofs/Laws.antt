@@ -15,7 +15,7 @@ use lib.Seq.{ext-getD}
 use lib.Ieee.{Float, nan}
 use Rattle.definition.specs.Vector.{tab, word, foldTo, dot}
 use Rattle.definition.specs.Compact.{pairOf, wrap, padded}
-use Rattle.area.specs.Area.{Vecs, upd, given, placeSlot, vectors}
+use Rattle.area.specs.Area.{Vecs, upd, given, vectors}
 use Rattle.area.proofs.Laws.{room}
 use Rattle.area.proofs.Laws as area-laws
 use Rattle.compact.specs.declared.Shape.{Shape}
@@ -135,14 +135,13 @@ pub pair-at : (h : Shape) (v : Vecs) (k : ℕ) → k < h .pairs → pairOf (pair
 unfolding pairsOf
 pair-at h v k l = tab-get (h .pairs) (pairAt h v) k (record { s = []; y = [] }) l
 
-pub slot-is : (h : Shape) (k r w size : ℕ) → Sound h size → k < h .pairs → w ≡ wrap (h .m) (h .oldest + k) → r ≡ placeSlot w → Slot h k r size
-slot-is h k r w size s l d e =
-    let g : w < h .m = place-below k w s (omega arith) d in
-    let q : r ≡ pairSlot h k = rw (← d) e in
+pub slot-is : (h : Shape) (k r size : ℕ) → Sound h size → k < h .pairs → r ≡ pairSlot h k → Slot h k r size
+slot-is h k r size s l e =
+    let g = place-below k _ s (omega arith) refl in
     record {
-      is = q;
-      s = λ v. rw (pair-at h v k l) (ap v q);
-      y = λ v. rw (pair-at h v k l) (ap (λ (j : ℕ). v (j + 1)) q);
+      is = e;
+      s = λ v. rw (pair-at h v k l) (ap v e);
+      y = λ v. rw (pair-at h v k l) (ap (λ (j : ℕ). v (j + 1)) e);
       first = room r (vectors (h .m)) (h .n) size (omega arith) (s .all);
       second = room (r + 1) (vectors (h .m)) (h .n) size (omega arith) (s .all);
       low = omega arith;

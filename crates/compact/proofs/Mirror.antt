@@ -2,12 +2,10 @@
 use mathlib.Core.Path.{_≡_, refl, sym, ap, _∙_}
 use mathlib.Core.Bool.{Bool, true, false, cond}
 use mathlib.Core.List.{List, []}
-use Prim.Native.Nat.{ℕ, _+_, _-_, _*_, _≤_, _<_}
+use Prim.Native.Nat.{ℕ, _-_, _*_, _<_}
 use native.Mathlib.Nat.{mul-comm}
-use native.Mathlib.Omega.{arith}
-use borrow.Author.Tests.{eqb-true, eqb-false, eq-eqb, ne-eqb}
+use borrow.Author.Tests.{eqb-true, eqb-false, ne-eqb}
 use lib.Dec.{eqb, ltb}
-use lib.ListN.{length}
 use lib.Ieee.{Float, Format, nan, inf, fin, binary64, mul, round, unlike, up, down}
 use Rattle.definition.specs.Number.{plus, times, zero64, negZero}
 use Rattle.definition.specs.Vector.{foldTo, word, dot}

@@ -2,7 +2,7 @@
 use mathlib.Core.Path.{_≡_, refl, sym, ap, _∙_}
 use mathlib.Core.Bool.{Bool, true, false, cond, _&&_}
 use mathlib.Core.List.{List, [], _∷_, _++_}
-use Prim.Native.Nat.{ℕ, zero, suc, _+_, _-_, _*_, _≤_, _<_}
+use Prim.Native.Nat.{ℕ, zero, suc, _+_, _≤_, _<_}
 use native.Mathlib.Numerals.{add-one}
 use native.Mathlib.Omega.{arith}
 use borrow.Author.Tests.{ltb-true, ltb-false, eq-eqb, ne-eqb}
@@ -15,7 +15,7 @@ use Rattle.definition.specs.Compact.{Pair, wrap, makeRoom}
 use Rattle.area.specs.Area.{Vecs, upd, copyOf, Velocity, Displacement, firstPair, placeSlot}
 use Rattle.area.proofs.Laws.{upd-other}
 use Rattle.compact.specs.declared.Shape.{Shape}
-use Rattle.compact.specs.State.{pairAt, pairsOf, compactOf, Sound, pushedShape, Pushed, Updated}
+use Rattle.compact.specs.State.{pairSlot, pairAt, pairsOf, compactOf, Sound, pushedShape, Pushed, Updated}
 use Rattle.compact.proofs.Laws.{tab-length, tab-same, by-wrap, wrap-below}
 
 tab-last : {A : Type 0} (n : ℕ) (f : ℕ → A) → tab (suc n) f ≡ tab n f ++ (f n ∷ [])
@@ -122,13 +122,13 @@ sound-at h size r false e = rw e (record { few = r .few; most = r .most; ring = 
 -- ---- `push` and `update`
 
 -- the two scratch vectors copied to the place after the newest
-pub pair-pushed : {h g : Shape} {size : ℕ} (old theta : Float) (k w : ℕ) (a b : Vecs) → Sound h size → w ≡ wrap (h .m) (h .oldest + h .pairs) → k ≡ placeSlot w
+pub pair-pushed : {h g : Shape} {size : ℕ} (old theta : Float) (k : ℕ) (a b : Vecs) → Sound h size → k ≡ pairSlot h (h .pairs)
     → b ≡ copyOf (k + 1) Displacement (copyOf k Velocity a) → g ≡ pushedShape h → Pushed h old theta a g b
-pair-pushed {h} {g} old theta k w a b r d e q j =
+pair-pushed {h} {g} old theta k a b r e q j =
     let at = wrap (h .m) (h .oldest + h .pairs) in
     let same : b ≡ pairPut a at (a Velocity) (a Displacement) =
     q
-    ∙ ap (λ (i : ℕ). copyOf (i + 1) Displacement (copyOf i Velocity a)) (e ∙ ap (λ (i : ℕ). placeSlot i) d)
+    ∙ ap (λ (i : ℕ). copyOf (i + 1) Displacement (copyOf i Velocity a)) e
     ∙ ap (pairPut a at (a Velocity)) (upd-other a (placeSlot at) Displacement (a Velocity) (λ z. omega arith)) in
     record {
       sound = λ size s. rw j (sound-at h size s (ltb (h .pairs) (h .m)) refl);

@@ -1,5 +1,5 @@
 -- The correction pairs as a ring of m places in the area, and the definition's `Compact` read off it.
-use Prim.Native.Nat.{ℕ, _+_, _-_, _*_, _≤_, _<_}
+use Prim.Native.Nat.{ℕ, _+_, _*_, _≤_, _<_}
 use mathlib.Core.Path.{_≡_}
 use mathlib.Core.Bool.{Bool, cond}
 use mathlib.Core.List.{List}
@@ -7,6 +7,7 @@ use lib.Dec.{ltb}
 use lib.Ieee.{Float}
 use Rattle.definition.specs.Number.{times, minus, zero64}
 use Rattle.definition.specs.Vector.{tab, foldTo, word}
+use Rattle.definition.specs.Problem.{mostPairs}
 use Rattle.definition.specs.Solve.{Matrix}
 use Rattle.definition.specs.Compact as C
 use Rattle.definition.specs.Compact.{wrap}
@@ -35,7 +36,7 @@ compactOf h theta v = record { pairs = pairsOf h v; theta = theta; oldest = h .o
 
 -- the ring's numbers lie in range, and there is room for the vectors
 pub record Sound (h : Shape) (size : ℕ) : Type 0 where
-  pub few : h .m ≤ 16
+  pub few : h .m ≤ mostPairs
   pub most : h .pairs ≤ h .m
   pub ring : h .oldest < h .m
   pub all : vectors (h .m) * h .n ≤ size

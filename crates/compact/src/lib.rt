@@ -5,11 +5,12 @@ ghost use Prim.Native.Nat.{ℕ, _+_, _*_, _≤_, _<_};
 ghost use lib.ListN.{length};
 ghost use Rattle.definition.specs.Number.{over, times, minus, zero64};
 ghost use Rattle.definition.specs.Vector.{tab, dot as dotOf};
+ghost use Rattle.definition.specs.Problem.{mostPairs};
 ghost use Rattle.definition.specs.Compact.{curved as curvedOf, usable as usableOf, pairOf, columnWord, diagonalEntry, lowerEntry, blockEntry};
 ghost use Rattle.definition.specs.Compact.{wrap, padded, zeroRow, block as blockOf, rightSide, weights as weightsOf};
 ghost use Rattle.area.specs.Area.{view, upd, rowwise, firstPair};
 ghost use Rattle.solve.specs.Answers.{answerOf};
-ghost use Rattle.compact.specs.State.{pairsOf, compactOf, columnSlot, blockTo, Sound, Slot, pushedShape, Pushed, Laid, PairsKept, Prepared, Multiplied, lessTo};
+ghost use Rattle.compact.specs.State.{pairsOf, compactOf, pairSlot, columnSlot, blockTo, Sound, Slot, pushedShape, Pushed, Laid, PairsKept, Prepared, Multiplied, lessTo};
 
 // What the places of the pairs rest on: n coordinates, m places, how many are used, and which is the oldest.
 pub struct Shape {
@@ -32,12 +33,28 @@ pub fn wrapped(m: usize, i: usize) -> usize
     if i < m { i } else { i - m }
 }
 
+// The vector of the place k behind the oldest's: a pair's s, and its y in the next vector.
+fn place_slot(h: Shape, k: usize) -> usize
+    requires { ⌜ (h .oldest < h .m) × (k ≤ h .m) × (h .m ≤ mostPairs) ⌝ }
+    ensures { λ r. ⌜ r ≡ pairSlot h k ⌝ }
+{
+    area::FIRST_PAIR + 2 * wrapped(h.m, h.oldest + k)
+}
+
+// The vector of column k of W, behind the pairs.
+pub fn column_slot(h: Shape, k: usize) -> usize
+    requires { ⌜ (h .m ≤ mostPairs) × (k < 2 * h .m) ⌝ }
+    ensures { λ r. ⌜ r ≡ columnSlot h k ⌝ }
+{
+    area::FIRST_PAIR + 2 * h.m + k
+}
+
 // Where pair k stands: its s, and its y in the next vector.
 pub fn pair_slot(area: &[f64], h: Shape, k: usize) -> usize
     requires { ⌜ Sound h (length (now area)) × (k < h .pairs) ⌝ }
     ensures { λ r. ⌜ Slot h k r (length (now (area .entry))) ⌝ }
 {
-    area::FIRST_PAIR + 2 * wrapped(h.m, h.oldest + k)
+    place_slot(h, k)
 }
 
 // ---- update
@@ -64,7 +81,7 @@ fn worth(sy: f64, yy: f64) -> bool
 
 // One pair more, or without the oldest where there are m.
 fn pushed(h: Shape) -> Shape
-    requires { ⌜ (h .pairs ≤ h .m) × (h .oldest < h .m) × (h .m ≤ 16) ⌝ }
+    requires { ⌜ (h .pairs ≤ h .m) × (h .oldest < h .m) × (h .m ≤ mostPairs) ⌝ }
     ensures { λ r. ⌜ r ≡ pushedShape h ⌝ }
 {
     let mut r = h;
@@ -81,7 +98,7 @@ fn push(area: &mut [f64], h: Shape, old: f64, theta: f64) -> Shape
     requires { ⌜ Sound h (length (now area)) ⌝ }
     ensures { λ r. ⌜ Pushed h old theta (view (now (area .entry)) (h .n)) r (view (now (area .exit)) (h .n)) ⌝ }
 {
-    let k = area::FIRST_PAIR + 2 * wrapped(h.m, h.oldest + h.pairs);
+    let k = place_slot(h, h.pairs);
     area::copy(area, h.n, k, area::VELOCITY);
     area::copy(area, h.n, k + 1, area::DISPLACEMENT);
     pushed(h)
@@ -231,7 +248,7 @@ fn lay_column(area: &mut [f64], h: Shape, theta: f64, k: usize)
     requires { ⌜ Sound h (length (now area)) × (k < 2 * h .pairs) ⌝ }
     ensures { λ _. ⌜ view (now (area .exit)) (h .n) ≡ upd (view (now (area .entry)) (h .n)) (columnSlot h k) (tab (h .n) (columnWord (compactOf h theta (view (now (area .entry)) (h .n))) k)) ⌝ }
 {
-    let to = area::FIRST_PAIR + 2 * h.m + k;
+    let to = column_slot(h, k);
     if k < h.pairs {
         let p = pair_slot(area, h, k);
         area::copy(area, h.n, to, p + 1);
@@ -265,7 +282,7 @@ fn right_side(area: &[f64], h: Shape, theta: f64, q: usize) -> [f64; 32]
     let mut r = zeros();
     let mut k = 0;
     while k < size {
-        r[k] = area::dot(area, h.n, area::FIRST_PAIR + 2 * h.m + k, q);
+        r[k] = area::dot(area, h.n, column_slot(h, k), q);
         k += 1;
     }
     r
@@ -316,7 +333,7 @@ fn less_columns(area: &mut [f64], h: Shape, theta: f64, z: [f64; 32], p: usize, 
     scale(area, h.n, p, q, theta);
     let mut k = 0;
     while k < size {
-        less(area, h.n, p, area::FIRST_PAIR + 2 * h.m + k, z[k]);
+        less(area, h.n, p, column_slot(h, k), z[k]);
         k += 1;
     }
 }

@@ -1,6 +1,6 @@
 -- Counters that are lent by `&mut` to a thin function, which charges them by a covered one, and the thin function's caller that has them by value:
 -- a walk of the MIR of each, by hand, for every charge that asks `Asked` of the counters and says `Said` of them before and after. Assumes nothing.
-use mathlib.Core.Path.{_≡_, refl, sym, ap, subst}
+use mathlib.Core.Path.{refl, sym, ap, subst}
 use Prim.Native.Nat.{ℕ}
 use mathlib.Core.List.{[], _∷_, List}
 use lib.Dec.{T as Holds}
@@ -34,7 +34,7 @@ use denote.Triple.Statement.{Contract, Triple}
 use denote.Triple.Call.{calls-at}
 use denote.Triple.Entry.{onEntry}
 use denote.Triple.Spec.{Meets, tripleOf}
-use denote.Triple.Walked.{says, needs, Stays, stay-ref, stay-none, walkOf, AllGo, goes-ref, goes-none, Walks, ends-at, walked, walk-meets}
+use denote.Triple.Walked.{says, needs, Stays, stay-ref, stay-none, walkOf, goes-ref, goes-none, Walks, ends-at, walked, walk-meets}
 use denote.Triple.Clauses.{Clauses, closing, ensured, lasts}
 use denote.Exit.{yes}
 use Rattle.counters.specs.declared.Counters.{Counters}

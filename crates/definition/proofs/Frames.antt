@@ -8,8 +8,7 @@ use lib.Dec.{ltb, leb}
 use lib.ListN.{length, getD, take, drop, length-append, length-drop, take-append-drop}
 use lib.Seq.{drop-at, take-all, drop-drop}
 use borrow.Author.Tests.{eqb-true, ltb-false, leb-true, le-ltb, le-leb}
-use Rattle.definition.specs.Problem.{Setup, Refusal}
-use Rattle.definition.specs.Machine.{Reply}
+use Rattle.definition.specs.Problem.{Refusal}
 use Rattle.definition.specs.Book.{Book}
 use Rattle.definition.specs.Record.{Lengths, Reading, writtenVersion, knownVersion, bytes, wordsOf, plainRefusal, readTrailed, readWords, readRecord}
 use Rattle.definition.specs.Values.{Bytes, Words}

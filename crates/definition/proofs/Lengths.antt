@@ -25,8 +25,8 @@ pub area-bounded : (s : Setup) → Accepted s → areaNeeded s ≤ areaWords mos
 area-bounded s a =
     let l = accepted-in-limits s a in
     let m = maxcorOf s in
-    let k : 4 * m + 16 ≤ 80 = omega (arith, l .pairs .1) in
-    let q : 4 * m ≤ 64 = omega (arith, l .pairs .1) in
+    let k : 4 * m + 16 ≤ 4 * mostPairs + 16 = omega (arith, l .pairs .1) in
+    let q : 4 * m ≤ 4 * mostPairs = omega (arith, l .pairs .1) in
     omega (arith, mul-le-mul (l .coordinates .1) k, mul-le-mul q (l .pairs .1), l .pairs .1)
 
 -- ---- the words of a log

@@ -3,13 +3,14 @@ use Prim.Native.Nat.{ℕ, zero, suc, _+_, _%_, _<_}
 use native.Mathlib.Omega.{arith}
 use mathlib.Core.Path.{_≡_, refl, sym, ap, _∙_, subst}
 use mathlib.Core.Logic.{_≢_}
-use mathlib.Core.Bool.{Bool, true, false, _&&_}
+use mathlib.Core.Bool.{Bool, true, false}
 use mathlib.Core.List.{List, [], _∷_, _++_}
 use lib.Dec.{eqb}
 use lib.ListN.{length, getD, set, length-set}
 use borrow.Author.Tests.{eqb-true}
 use Rattle.definition.specs.Record.{Lengths, Reading, Sums, wordSize, added, sumsFrom, sums, trailer, bytes, plainRefusal, sameSums, checkWords, readWords, readRecord}
 use Rattle.definition.specs.Values.{Words}
+use Rattle.definition.proofs.Tests.{both-true}
 use Rattle.definition.proofs.Lists.{each-at, each-set}
 use Rattle.definition.proofs.Frames.{trailing, read-framed}
 
@@ -59,10 +60,6 @@ pub sums-agree : (ws : List ℕ) (p q : ℕ) → sameSums ws p q ≡ true → (s
 sums-agree ws p q e =
     let both = both-true (eqb (sums ws .plain) p) (eqb (sums ws .running) q) e in
     (eqb-true (sums ws .plain) p (both .0), eqb-true (sums ws .running) q (both .1))
-  where
-    both-true : (a b : Bool) → (a && b) ≡ true → (a ≡ true) × (b ≡ true)
-    both-true true b e = (refl, e)
-    both-true false b e = (e, cc)
 
 other-sums : (z : Lengths) (ws : List ℕ) (p q : ℕ) → sums ws .plain ≢ p → readWords z ws p q ≡ Reading.refused (plainRefusal 18)
 unfolding readWords checkWords

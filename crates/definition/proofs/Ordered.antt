@@ -16,7 +16,7 @@ use Rattle.definition.specs.Machine.{Reply, Machine}
 use Rattle.definition.specs.Driver.{answer, begin, run}
 use Rattle.definition.specs.Log.{entryWords, logWords}
 use Rattle.definition.specs.Book.{Book, entryAt}
-use Rattle.definition.specs.Ordered.{inOrder, runFrom, runInOrder, logInOrder, entryInOrder, InOrder}
+use Rattle.definition.specs.Ordered.{runFrom, runInOrder, logInOrder, entryInOrder, InOrder}
 
 -- ---- replies turned round
 

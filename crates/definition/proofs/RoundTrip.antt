@@ -4,7 +4,7 @@ use Prim.Native.Nat.{ℕ, _+_, _≤_, _<_}
 use native.Mathlib.Omega.{arith}
 use mathlib.Core.Path.{_≡_, refl, sym, ap, ap₂, _∙_, subst}
 use mathlib.Core.Logic.{_≢_}
-use mathlib.Core.Bool.{Bool, true, false, not, _||_}
+use mathlib.Core.Bool.{false, not}
 use mathlib.Core.List.{List, [], _∷_, _++_, append-nil}
 use mathlib.Core.Option.{none, some}
 use lib.Dec.{ltb}
@@ -19,6 +19,7 @@ use Rattle.definition.specs.Record.{Lengths, Reading, wordSize, setupWor
 use Rattle.definition.specs.Replies.{Accepted, Due}
 use Rattle.definition.specs.Values.{Bytes, Words, SetupFloats, ReplyWords}
 use Rattle.definition.specs.Sound.{Sound}
+use Rattle.definition.proofs.Tests.{both-false}
 use Rattle.definition.proofs.Lists.{each-join, each-split}
 use Rattle.definition.proofs.Frames.{trailing, read-framed, Framed, accepted-framed}
 use Rattle.definition.proofs.OneWord.{trailer-words, sums-agree, one-changed-word}
@@ -112,10 +113,6 @@ kept-accepted : (t : Setup) (e : Entries) (b : Book) → readingOf t e ≡ Readi
 kept-accepted t (Entries.kept qs) b h = (cc, cc)
 kept-accepted t (Entries.refusedAt c) b h = let z : _≡_ {A = ℕ} 0 1 = cc in absurd (omega arith)
 kept-accepted t (Entries.going ws qs m) b h = let z : _≡_ {A = ℕ} 0 1 = cc in absurd (omega arith)
-
-both-false : (a b : Bool) → (a || b) ≡ false → (a ≡ false) × (b ≡ false)
-both-false true b e = (e, cc)
-both-false false b e = (refl, e)
 
 words-accepting : (z : Lengths) (ws : List ℕ) (p q : ℕ) (b : Book) → readWords z ws p q ≡ Reading.accepted b → Accepting z ws p q b
 unfolding readWords checkWords

@@ -7,9 +7,9 @@ use mathlib.Core.Option.{none, some}
 use lib.ListN.{length, take, drop, length-reverse, length-reverseAux, take-append-drop}
 use lib.Seq.{drop-at}
 use borrow.Author.Tests.{le-ltb}
-use Rattle.definition.specs.Problem.{Setup, Check}
+use Rattle.definition.specs.Problem.{Check}
 use Rattle.definition.specs.Machine.{Reply}
-use Rattle.definition.specs.Log.{entryWords, logWords}
+use Rattle.definition.specs.Log.{entryWords}
 use Rattle.definition.specs.Book.{Book, book, withReply, struck, logOf}
 use Rattle.definition.specs.Record.{Lengths}
 use Rattle.definition.specs.Replies.{Due}

@@ -11,7 +11,7 @@ use lib.Ieee.Scale.{finite}
 use Rattle.definition.specs.Number.{plus, minus, times, over, min, totalLe, zero64, negZero, one64, infinity}
 use Rattle.definition.specs.Vector.{foldTo, tab, word, zeros, sum, dot, allFinite, difference, _andThen_, finiteOnly}
 use Rattle.definition.specs.Problem.{Bounds, inBox, orElse}
-use Rattle.definition.specs.Solve.{Matrix, solve}
+use Rattle.definition.specs.Solve.{solve}
 use Rattle.definition.specs.Compact.{Compact, count, columnWord, blockEntry, padded, paddedRows, product}
 
 -- ---- break times: when a coordinate meets its bound

@@ -1,13 +1,13 @@
 -- What the report program and the C entry answer to a record's bytes.
 use Prim.Native.Nat.{ℕ, _+_, _*_, _^_}
 use mathlib.Core.Bool.{cond}
-use mathlib.Core.List.{List, [], _∷_, map}
+use mathlib.Core.List.{List, [], map}
 use mathlib.Core.Option.{Option, none, some}
 use lib.Dec.{eqb, ltb}
 use lib.ListN.{length}
 use lib.Ieee.{Float}
 use Rattle.definition.specs.Number.{toWord}
-use Rattle.definition.specs.Problem.{Refusal, mostPairs, areaWords}
+use Rattle.definition.specs.Problem.{mostPairs, areaWords}
 use Rattle.definition.specs.Machine.{Machine, Report, Question, reportNow, question, unreported, statusOf}
 use Rattle.definition.specs.Book.{runOf}
 use Rattle.definition.specs.Record.{Lengths, Reading, plainRefusal, readRecord, bytes}

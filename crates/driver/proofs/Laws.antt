@@ -3,7 +3,7 @@ use Prim.Native.Nat.{ℕ, zero, suc, _+_, _≤_, _<_}
 use native.Mathlib.Omega.{arith}
 use native.Mathlib.Nat.{mul-le-mul}
 use mathlib.Core.Path.{_≡_, refl, sym, ap, _∙_, subst}
-use mathlib.Core.Bool.{Bool, true, false, false≢true, _&&_}
+use mathlib.Core.Bool.{Bool, true, false, _&&_}
 use mathlib.Core.List.{List}
 use lib.ListN.{length, replicate}
 use lib.Ieee as Ieee
@@ -11,12 +11,13 @@ use lib.Ieee.{Float}
 use borrow.Author.Tests.{ltb-true, leb-true, eqb-true, lt-ltb, le-leb, eq-eqb}
 use Rattle.definition.specs.Number.{zero64, one64}
 use Rattle.definition.specs.Vector.{word}
-use Rattle.definition.specs.Problem.{Setup, Terms, dimension, maxcorOf, mostCoordinates, areaWords, areaNeeded}
+use Rattle.definition.specs.Problem.{Setup, Terms, dimension, maxcorOf, mostCoordinates, mostPairs, areaWords, areaNeeded}
 use Rattle.definition.specs.Counters as C
 use Rattle.definition.specs.Machine as M
 use Rattle.definition.specs.Driver.{run}
 use Rattle.definition.specs.Log.{logWords}
 use Rattle.definition.specs.Replies.{Accepted, Due}
+use Rattle.definition.proofs.Tests.{first-true, second-true}
 use Rattle.definition.proofs.Accepted.{accepted-in-limits}
 use Rattle.definition.proofs.Counts.{terms-stay, counts-few}
 use Rattle.definition.proofs.Probed.{InRange, probe-in-range}
@@ -38,14 +39,6 @@ use Rattle.driver.specs.Replies.{markAt, shapeHeld, phaseHeld, marked, i
 
 -- ---- tests that are joined
 
-pub and-l : (a b : Bool) → a && b ≡ true → a ≡ true
-and-l true b h = refl
-and-l false b h = h
-
-pub and-r : (a b : Bool) → a && b ≡ true → b ≡ true
-and-r true b h = h
-and-r false b h = absurd (false≢true h)
-
 pub and-i : (a b : Bool) → a ≡ true → b ≡ true → a && b ≡ true
 and-i a b h k = rw h k
 
@@ -55,22 +48,22 @@ and-no false b h = refl
 
 -- ---- what the test gives, and when it passes
 
-record ShapeFacts (h : Shape) (size : ℕ) : Type 0 where
-  positive : 0 < h .n
-  n : h .n ≤ mostCoordinates
-  some : 0 < h .m
-  few : h .m ≤ 16
-  most : h .pairs ≤ h .m
-  ring : h .oldest < h .m
-  area : areaWords (h .n) (h .m) ≤ size
+pub record ShapeFacts (h : Shape) (size : ℕ) : Type 0 where
+  pub positive : 0 < h .n
+  pub n : h .n ≤ mostCoordinates
+  pub some : 0 < h .m
+  pub few : h .m ≤ mostPairs
+  pub most : h .pairs ≤ h .m
+  pub ring : h .oldest < h .m
+  pub area : areaWords (h .n) (h .m) ≤ size
 
-shape-facts : (h : Shape) (size : ℕ) → shapeHeld h size ≡ true → ShapeFacts h size
-shape-facts h size k = search (and-l, and-r, ltb-true, leb-true) depth 9
+pub shape-facts : (h : Shape) (size : ℕ) → shapeHeld h size ≡ true → ShapeFacts h size
+shape-facts h size k = search (first-true, second-true, ltb-true, leb-true) depth 9
 
 facts-shape : (h : Shape) (size : ℕ) → ShapeFacts h size → shapeHeld h size ≡ true
 facts-shape h size k = search (and-i, lt-ltb, le-leb) depth 9
 
-shape-sound : {h : Shape} {size : ℕ} → ShapeFacts h size → Sound h size
+pub shape-sound : {h : Shape} {size : ℕ} → ShapeFacts h size → Sound h size
 shape-sound k = omega (arith, k)
 
 -- what the test gives
@@ -102,10 +95,10 @@ within-held (Ended t) n h = refl
 pub ready-facts : (t : Fit) (size : ℕ) → isReady t size ≡ true → ReadyFacts t size
 unfolding isReady
 ready-facts t size h =
-    let shape : shapeHeld (t .shape) size ≡ true = search (and-l, h) in
+    let shape : shapeHeld (t .shape) size ≡ true = search (first-true, h) in
     let k = shape-facts (t .shape) size shape in
     let sound = shape-sound k in
-    search (k, held-within, and-l, and-r, ltb-true, eqb-true) depth 9
+    search (k, held-within, first-true, second-true, ltb-true, eqb-true) depth 9
 
 pub facts-ready : (t : Fit) (size : ℕ) → ReadyFacts t size → isReady t size ≡ true
 unfolding isReady
@@ -115,11 +108,11 @@ facts-ready t size h =
 
 pub held-ready : (t : Fit) (a : List Float) → isHeld t a ≡ true → isReady t (length a) ≡ true
 unfolding isHeld
-held-ready t a h = and-l (isReady t (length a)) (marked (t .shape) a) h
+held-ready t a h = first-true (isReady t (length a)) (marked (t .shape) a) h
 
 pub held-marked : (t : Fit) (a : List Float) → isHeld t a ≡ true → marked (t .shape) a ≡ true
 unfolding isHeld
-held-marked t a h = and-r (isReady t (length a)) (marked (t .shape) a) h
+held-marked t a h = second-true (isReady t (length a)) (marked (t .shape) a) h
 
 pub is-held : (t : Fit) (a : List Float) → isReady t (length a) ≡ true → marked (t .shape) a ≡ true → isHeld t a ≡ true
 unfolding isHeld

@@ -6,17 +6,17 @@ use mathlib.Core.Path.{_≡_, refl, sym, ap, ap₂, _∙_}
 use mathlib.Core.Bool.{Bool, true, false, cond, not, _&&_}
 use mathlib.Core.List.{List, [], _∷_, map}
 use mathlib.Core.Option.{none}
-use borrow.Author.Tests.{lt-ltb, le-ltb, ltb-true, leb-true, eqb-true, eq-eqb}
+use borrow.Author.Tests.{lt-ltb, le-ltb, eqb-true, eq-eqb}
 use denote.Enum.Declared.{tagOf}
 use types.Run.{OneOf, miss}
-use lib.Dec.{ltb, leb, eqb}
+use lib.Dec.{ltb, eqb}
 use lib.ListN.{length, set, length-set}
 use lib.Seq.{getD-set-same}
 use lib.Ieee as Ieee
 use lib.Ieee.{Float, nan}
 use Rattle.definition.specs.Number.{toFloat, one64}
 use Rattle.definition.specs.Vector.{word}
-use Rattle.definition.specs.Problem.{Check, refuse, when, _then_, mostCoordinates, areaWords}
+use Rattle.definition.specs.Problem.{Check, refuse, when, _then_, mostCoordinates, mostPairs}
 use Rattle.definition.specs.Counters.{Termination}
 use Rattle.definition.specs.Machine as M
 use Rattle.definition.specs.Driver as D
@@ -36,6 +36,7 @@ use Rattle.fit.proofs.Laws.{kept-refl, still, steps-as}
 use Rattle.question.specs.Reports.{Within}
 use Rattle.driver.specs.declared.Reply.{Reply}
 use Rattle.driver.specs.declared.Reply.the-variants as R
+use Rattle.driver.proofs.Laws.{shape-facts}
 use Rattle.driver.specs.Replies.{markAt, shapeHeld, countsHeld, logHeld, phaseHeld, isReady, isHeld, Marks, suppliedIn, replied, advancedIn, advanced}
 
 -- ---- tests
@@ -45,21 +46,6 @@ none-ltb k e = le-ltb 0 k (omega arith)
 
 pub some-ltb : (k : ℕ) → (k ≡ 0 → ⊥) → ltb 0 k ≡ true
 some-ltb k h = lt-ltb 0 k (omega arith)
-
-pub both : (a b : Bool) → (a && b) ≡ true → (a ≡ true) × (b ≡ true)
-both true b e = (refl, e)
-both false b e = (e, cc)
-
-seven : (a b c d e f g : Bool) → (a && b && c && d && e && f && g) ≡ true
-    → (a ≡ true) × (b ≡ true) × (c ≡ true) × (d ≡ true) × (e ≡ true) × (f ≡ true) × (g ≡ true)
-seven a b c d e f g h =
-    let p = both (a && b && c && d && e && f) g h in
-    let q = both (a && b && c && d && e) f (p .0) in
-    let r = both (a && b && c && d) e (q .0) in
-    let s = both (a && b && c) d (r .0) in
-    let t = both (a && b) c (s .0) in
-    let u = both a b (t .0) in
-    (u .0, u .1, t .1, s .1, r .1, q .1, p .1)
 
 -- of five tests in a row
 one-fails : (a b c d e : Bool) → a ≡ false → false ≡ (a && b && c && d && e)
@@ -115,13 +101,6 @@ module _ (t : Fit) (size : ℕ) where
   unfolding isReady
   phase-left = five-left shape places counts log phase
 
-  pub ready-shape : isReady t size ≡ true → shape ≡ true
-  unfolding isReady
-  ready-shape h =
-      let a = both (shape && places && counts && log) phase h .0 in
-      let b = both (shape && places && counts) log a .0 in
-      both shape places (both (shape && places) counts b .0) .0
-
 module _ (t : Fit) (a : List Float) where
   pub unready-unheld : isReady t (length a) ≡ false → false ≡ isHeld t a
   unfolding isHeld
@@ -137,25 +116,16 @@ module _ (t : Fit) (a : List Float) where
 pub record Behind (h : Shape) (size : ℕ) : Type 0 where
   pub some : 0 < h .n
   pub n : h .n ≤ mostCoordinates
-  pub m : h .m ≤ 16
+  pub m : h .m ≤ mostPairs
   pub room : markAt h < size
 
-pub mark-most : (h : Shape) → h .n ≤ mostCoordinates → h .m ≤ 16 → markAt h ≤ 80 * mostCoordinates
-mark-most h n m = mul-le-mul {n₂ = 80} {m₂ = mostCoordinates} (omega arith) n
+pub mark-most : (h : Shape) → h .n ≤ mostCoordinates → h .m ≤ mostPairs → markAt h ≤ vectors mostPairs * mostCoordinates
+mark-most h n m = mul-le-mul {n₂ = vectors mostPairs} {m₂ = mostCoordinates} (omega arith) n
 
 pub mark-behind : (h : Shape) (size : ℕ) → shapeHeld h size ≡ true → Behind h size
 mark-behind h size e =
-    let k = seven (ltb 0 (h .n)) (leb (h .n) mostCoordinates) (ltb 0 (h .m)) (leb (h .m) 16) (leb (h .pairs) (h .m)) (ltb (h .oldest) (h .m)) (leb (areaWords (h .n) (h .m)) size) e in
-    let n : h .n ≤ mostCoordinates = leb-true _ _ (k .1) in
-    let r : 0 < h .m = ltb-true _ _ (k .2) in
-    let m : h .m ≤ 16 = leb-true _ _ (k .3) in
-    let z : areaWords (h .n) (h .m) ≤ size = leb-true _ _ (k .6) in
-    record {
-      some = ltb-true _ _ (k .0);
-      n = n;
-      m = m;
-      room = omega (arith, behind (h .n) (h .m));
-    }
+    let k = shape-facts h size e in
+    record { some = k .positive; n = k .n; m = k .few; room = omega (arith, k .some, k .area, behind (h .n) (h .m)) }
 
 -- a word behind the first p vectors is in none of them
 before-kept : (a : List Float) (n p : ℕ) (v : Float) → 0 < n → (q : ℕ) → q < p → view (set a (p * n) v) n q ≡ view a n q

@@ -1,5 +1,5 @@
 -- The test for a held fit, and the reply that a fit is advanced by.
-use Prim.Native.Nat.{ℕ, _+_, _*_, _<_}
+use Prim.Native.Nat.{ℕ, _*_, _<_}
 use mathlib.Core.Path.{_≡_}
 use mathlib.Core.Bool.{Bool, true, _&&_}
 use mathlib.Core.List.{List}
@@ -9,7 +9,7 @@ use lib.Ieee as Ieee
 use lib.Ieee.{Float}
 use Rattle.definition.specs.Number.{one64}
 use Rattle.definition.specs.Vector.{word}
-use Rattle.definition.specs.Problem.{mostCoordinates, areaWords}
+use Rattle.definition.specs.Problem.{mostCoordinates, mostPairs, areaWords}
 use Rattle.definition.specs.Machine as M
 use Rattle.definition.specs.Driver as D
 use Rattle.area.specs.Area.{view, vectors}
@@ -31,7 +31,7 @@ markAt h = vectors (h .m) * h .n
 
 abbrev pub shapeHeld : Shape → ℕ → Bool
 shapeHeld h size =
-    ltb 0 (h .n) && leb (h .n) mostCoordinates && ltb 0 (h .m) && leb (h .m) 16 && leb (h .pairs) (h .m) && ltb (h .oldest) (h .m)
+    ltb 0 (h .n) && leb (h .n) mostCoordinates && ltb 0 (h .m) && leb (h .m) mostPairs && leb (h .pairs) (h .m) && ltb (h .oldest) (h .m)
     && leb (areaWords (h .n) (h .m)) size
 
 abbrev pub countsHeld : Counters → Bool

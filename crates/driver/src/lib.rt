@@ -9,7 +9,7 @@ ghost use Rattle.fit.specs.State.{machine, Turns, Steps};
 ghost use Rattle.measure.specs.Ready.{Ready};
 ghost use Rattle.question.specs.Reports.{Within};
 ghost use mathlib.Core.Bool.{true, cond};
-ghost use Rattle.definition.specs.Problem.{mostCoordinates};
+ghost use Rattle.definition.specs.Problem.{mostCoordinates, mostPairs};
 ghost use Rattle.definition.specs.Machine.{suits as suitsOf, checkDue};
 ghost use Rattle.driver.specs.declared.Reply.the-variants.{Value, Gradient, NotSupplied, GoOn, Stop, Failure};
 ghost use Rattle.driver.specs.Replies.{markAt, shapeHeld, countsHeld, logHeld, phaseHeld, isReady, isHeld, Marks, replied, advanced};
@@ -116,7 +116,7 @@ pub fn is_ready(t: Fit, size: usize) -> bool
 
 // Where the mark stands: behind the vectors.
 fn mark_at(h: Shape) -> usize
-    requires { ⌜ (h .n ≤ mostCoordinates) × (h .m ≤ 16) ⌝ }
+    requires { ⌜ (h .n ≤ mostCoordinates) × (h .m ≤ mostPairs) ⌝ }
     ensures { λ r. ⌜ r ≡ markAt h ⌝ }
 {
     (area::FIRST_PAIR + 4 * h.m) * h.n

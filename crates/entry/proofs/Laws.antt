@@ -14,10 +14,9 @@ use lib.Seq.{length-take-le}
 use lib.Ieee.{Float}
 use Rattle.definition.specs.Number.{toWord}
 use Rattle.definition.specs.Problem as P
-use Rattle.definition.specs.Problem.{Setup, refuse, when, _then_, dimension}
+use Rattle.definition.specs.Problem.{refuse, when, _then_, dimension}
 use Rattle.definition.specs.Machine as M
 use Rattle.definition.specs.Machine.{Machine, Phase, Question, questionIn, question, statusOf, unreported, reportNow}
-use Rattle.definition.specs.Driver.{run}
 use Rattle.definition.specs.Record.{Reading, plainRefusal, bytes}
 use Rattle.definition.specs.Replies.{Accepted}
 use Rattle.definition.specs.History as H

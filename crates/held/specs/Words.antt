@@ -16,7 +16,6 @@ use Rattle.fit.specs.State.{machineOf}
 use Rattle.fit.specs.declared.Fit.{Fit}
 use Rattle.opening.specs.Opened.{setupAt}
 use Rattle.driver.specs.Replies.{isHeld}
-use Rattle.driver.specs.declared.Reply.{Reply}
 
 pub record Words : Type 0 where
   pub state : Fit

@@ -4,7 +4,7 @@ use Prim.Native.Nat.{ℕ, zero, suc, _+_, _-_, _*_, _/_, _%_, _≤_, _<_}
 use native.Mathlib.Omega.{arith}
 use native.Mathlib.Nat.{div-add-mod', mod-lt, div-lt-iff-lt-mul, lt-of-lt-of-le, eq-or-lt-of-le}
 use mathlib.Core.Path.{_≡_, refl, sym, ap, _∙_, subst}
-use mathlib.Core.Bool.{Bool, true, false, false≢true, Bool·beq, _&&_, _||_}
+use mathlib.Core.Bool.{Bool, true, false, false≢true, Bool·beq, _||_}
 use mathlib.Core.Logic.{_⊎_, inl, inr, ⊎-elim}
 use mathlib.Core.List.{List}
 use lib.Arith.{digits-lt, digits-div}
@@ -20,6 +20,7 @@ use Rattle.definition.specs.Number.{one64}
 use Rattle.definition.specs.Vector.{word}
 use Rattle.definition.specs.Compact.{Pair, wrap}
 use Rattle.definition.specs.Values.{Binary64}
+use Rattle.definition.proofs.Tests.{both-true}
 use Rattle.area.specs.Area.{Vecs, view, placeSlot, firstColumn, vectors}
 use Rattle.area.proofs.Laws.{room, length-view, word-view}
 use Rattle.compact.specs.State.{pairAt, Sound}
@@ -224,10 +225,6 @@ positive-sign : (s : Bool) (a : ℕ) → 0 < a → Bool·beq s false || eqb a 0 
 positive-sign false a l e = refl
 positive-sign true a l e = let z = eqb-true a 0 e in absurd (omega (arith, l, z))
 
-and-both : (a b : Bool) → a && b ≡ true → (a ≡ true) × (b ≡ true)
-and-both true b h = (refl, h)
-and-both false b h = absurd (false≢true h)
-
 -- a float of binary64 that equals 1 is 1
 one-is : (x : Float) → Binary64 x → Ieee.eq x one64 ≡ true → x ≡ one64
 unfolding Ieee.eq Ieee.fits
@@ -235,7 +232,7 @@ one-is Ieee.nan p e = absurd (false≢true e)
 one-is (Ieee.inf s) p e = absurd (false≢true e)
 one-is (Ieee.fin s m x) p e =
     let a = m * Ieee.up x * 1 in
-    let both = and-both (eqb a (1 * Ieee.down x)) (Bool·beq s false || eqb a 0) e in
+    let both = both-true (eqb a (1 * Ieee.down x)) (Bool·beq s false || eqb a 0) e in
     let value = eqb-true a (1 * Ieee.down x) (both .0) in
     let k = down-pos x in
     let sign = positive-sign s a (omega (arith, value, k)) (both .1) in

@@ -21,24 +21,18 @@ use Rattle.definition.specs.Book.{Book, openedBook, runOf, logOf, entryAt}
 use Rattle.definition.specs.Record.{Lengths, Reading, plainRefusal, checkArea, readRecord, recordWords, recordBytes}
 use Rattle.definition.specs.Sound.{Sound}
 use Rattle.definition.specs.History.{Call, Answer, History, checkQuestion, leftBy, refusedBy, restored, restoredAnswer, historyStep, historyAnswer, historyAfter, historyAnswers}
+use Rattle.definition.proofs.Tests.{first-true}
 use Rattle.definition.proofs.Histories.{isRead, read-stays, history-sound}
 use Rattle.driver.specs.Replies.{isHeld, markAt, marked, isReady}
+use Rattle.driver.proofs.Laws.{and-no}
 use Rattle.lbfgsb.specs.Words.{Words, lengths, Held, Holds}
 use Rattle.lbfgsb.specs.Did.{Did, Opening, Stepped, Started, Restored, Restores}
 use Rattle.lbfgsb.specs.Chain.{Chain, Blank, Opens, Allowed, FitIn, HasFit, Keeps, KeepsNone, After, Demand}
 
 -- ---- words that hold no fit
 
-and-left : (a b : Bool) → a && b ≡ true → a ≡ true
-and-left true b h = refl
-and-left false b h = h
-
 and-no-left : (a b : Bool) → a ≡ false → a && b ≡ false
 and-no-left a b h = rw h refl
-
-and-no-right : (a b : Bool) → b ≡ false → a && b ≡ false
-and-no-right true b h = h
-and-no-right false b h = refl
 
 -- no zero is the mark
 zero-unmarked : (x : Float) → Ieee.eq x zero64 ≡ true → Ieee.eq x one64 ≡ false
@@ -46,13 +40,13 @@ unfolding Ieee.eq
 zero-unmarked Ieee.nan e = refl
 zero-unmarked (Ieee.inf s) e = refl
 zero-unmarked (Ieee.fin s m x) e =
-    let h = eqb-true (m * Ieee.up x * 1) (0 * Ieee.down x) (and-left (eqb (m * Ieee.up x * 1) (0 * Ieee.down x)) (Bool·beq s false || eqb (m * Ieee.up x * 1) 0) e) in
+    let h = eqb-true (m * Ieee.up x * 1) (0 * Ieee.down x) (first-true (eqb (m * Ieee.up x * 1) (0 * Ieee.down x)) (Bool·beq s false || eqb (m * Ieee.up x * 1) 0) e) in
     let k = down-pos x in
     and-no-left (eqb (m * Ieee.up x * 1) (1 * Ieee.down x)) (Bool·beq s false || eqb (m * Ieee.up x * 1) 0) (ne-eqb (m * Ieee.up x * 1) (1 * Ieee.down x) (λ q. omega arith))
 
 pub blank-unheld : (w : Words) → Blank w → Holds w History.empty
 unfolding isHeld Ieee.eq
-blank-unheld w b = and-no-right (isReady (w .state) (length (w .area))) (marked (w .state .shape) (w .area)) (go (ltb at (length (w .area))) refl)
+blank-unheld w b = and-no (isReady (w .state) (length (w .area))) (marked (w .state .shape) (w .area)) (go (ltb at (length (w .area))) refl)
   where
     at : ℕ
     at = markAt (w .state .shape)

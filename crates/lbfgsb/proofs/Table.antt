@@ -2,14 +2,14 @@
 -- printed first refuses. Assumes nothing.
 use Prim.Native.Nat.{ℕ, _+_, _<_, _≤_}
 use mathlib.Core.Path.{_≡_, refl}
-use mathlib.Core.Bool.{Bool, true, false}
+use mathlib.Core.Bool.{true, false}
 use mathlib.Core.List.{List}
 use mathlib.Core.Logic.{_≢_}
 use mathlib.Core.Option.{Option, none, some}
 use lib.Dec.{ltb}
 use lib.ListN.{length}
 use borrow.Author.Tests.{lt-ltb, le-ltb, ne-eqb}
-use Rattle.definition.specs.Problem.{Setup, Refusal, Check, refuse, when, _then_, validate, areaNeeded}
+use Rattle.definition.specs.Problem.{Setup, Refusal, refuse, when, _then_, validate, areaNeeded}
 use Rattle.definition.specs.Machine.{Reply, Question, takes, checkDue, question, unreported}
 use Rattle.definition.specs.Log.{entryWords}
 use Rattle.definition.specs.Record.{plainRefusal, readRecord}

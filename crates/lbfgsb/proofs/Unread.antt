@@ -18,9 +18,9 @@ use Rattle.fit.proofs.Laws.{same}
 use Rattle.driver.specs.Replies.{isReady, marked}
 use Rattle.driver.proofs.Laws.{ready-facts, held-ready, is-held}
 use Rattle.held.proofs.Laws.{setup-same}
-use Rattle.lbfgsb.specs.Words.{Words, words, lengths, Stands, Held}
+use Rattle.lbfgsb.specs.Words.{Words, words, Stands, Held}
 use Rattle.lbfgsb.specs.Chain.{Agree, Alike}
-use Rattle.lbfgsb.proofs.Areas.{InUse, Same, in-use}
+use Rattle.lbfgsb.proofs.Areas.{Same, in-use}
 use Rattle.lbfgsb.proofs.Alike.{alike}
 use Rattle.lbfgsb.proofs.Trace.{Called}
 

@@ -34,7 +34,7 @@ vector-long t a q k h =
     let f = facts t a h in
     length-view a (t .shape .n) q (omega (arith, within (t .shape .n) (t .shape .m) q (omega arith), f .area))
 
-places-few : (k : MaybeCount) (m : ℕ) → P.orElse (countOf k) 10 ≡ m → m ≤ 16 → P.orElse (countOf k) 0 ≤ 255
+places-few : (k : MaybeCount) (m : ℕ) → P.orElse (countOf k) 10 ≡ m → m ≤ P.mostPairs → P.orElse (countOf k) 0 ≤ 255
 places-few K.Absent m e h = omega arith
 places-few (K.Given j) m e h = omega arith
 

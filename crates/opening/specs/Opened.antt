@@ -1,5 +1,5 @@
 -- The opening: a setup stands in the options of a fit and three vectors of its area, and the fit is at its first question.
-use Prim.Native.Nat.{ℕ, _+_, _*_, _≤_, _<_}
+use Prim.Native.Nat.{ℕ, _*_, _≤_, _<_}
 use mathlib.Core.Path.{_≡_}
 use mathlib.Core.Bool.{Bool, true, false}
 use mathlib.Core.List.{List}
@@ -29,7 +29,7 @@ setupAt o v = setupIn o (v X0) (v Lower) (v Upper)
 -- room for n coordinates and the pairs that the options allow
 pub record Room (o : Options) (n size : ℕ) : Type 0 where
   pub all : vectors (placesIn o) * n ≤ size
-  pub few : placesIn o ≤ 16
+  pub few : placesIn o ≤ P.mostPairs
   pub some : 0 < placesIn o
 
 -- the bounds are as long as the start, where they count

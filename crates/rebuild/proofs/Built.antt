@@ -1,6 +1,6 @@
 -- Laws of a fit built anew: the opening of a setup can be replayed into, and what a replay leaves, marked or zeroed, is the fit of setup and entries.
 -- Assumes nothing.
-use Prim.Native.Nat.{ℕ, _+_, _-_, _*_, _≤_, _<_}
+use Prim.Native.Nat.{ℕ, _-_, _*_, _≤_, _<_}
 use native.Mathlib.Omega.{arith}
 use mathlib.Core.Path.{_≡_, refl, sym, ap, _∙_, subst}
 use mathlib.Core.Bool.{true}
@@ -10,7 +10,7 @@ use lib.Dec.{ltb}
 use lib.ListN.{length, take, drop, replicate, length-drop}
 use lib.Seq.{length-take-le}
 use lib.Ieee.{Float}
-use borrow.Author.Tests.{ltb-true, ltb-false, leb-true, lt-ltb, le-ltb}
+use borrow.Author.Tests.{ltb-true, ltb-false, lt-ltb, le-ltb}
 use Rattle.definition.specs.Number.{zero64}
 use Rattle.definition.specs.Problem.{Setup, Terms, areaWords, areaNeeded}
 use Rattle.definition.specs.Counters as C
@@ -21,8 +21,6 @@ use Rattle.definition.proofs.Tests.{by-test}
 use Rattle.area.specs.Area.{view, vectors, FreeKept, X0}
 use Rattle.problem.specs.Setups.{placesIn, setupIn}
 use Rattle.problem.specs.declared.Options.{Options}
-use Rattle.compact.specs.declared.Shape.{Shape}
-use Rattle.compact.specs.State.{Sound}
 use Rattle.counters.specs.Counts.{countersOf}
 use Rattle.fit.specs.State.{phaseOf}
 use Rattle.fit.specs.declared.Fit.{Fit}
@@ -30,8 +28,8 @@ use Rattle.fit.specs.declared.Phase.{Phase}
 use Rattle.fit.specs.declared.Phase.the-variants.{Value, Gradient, Probe, Notice, Ended}
 use Rattle.question.specs.Reports.{Within}
 use Rattle.opening.specs.Opened.{setupAt, Room, Fits, Opened}
-use Rattle.driver.specs.Replies.{shapeHeld, mostWords, isReady, Marks}
-use Rattle.driver.proofs.Laws.{and-l, and-r, ready-facts, facts-ready, shape-again, marked-machine}
+use Rattle.driver.specs.Replies.{mostWords, isReady, Marks}
+use Rattle.driver.proofs.Laws.{shape-facts, shape-sound, ready-facts, facts-ready, shape-again, marked-machine}
 use Rattle.record.specs.Records.{setupFrom}
 use Rattle.replay.specs.Replays.{Keeps, Replays}
 use Rattle.replay.specs.declared.Replayed.{Replayed}
@@ -124,19 +122,6 @@ pub markable-all : {t : Fit} {a : List Float} {ws : List ℕ} {limit room : ℕ}
 markable-all {limit = limit} (R.Done f) {b} h = by-test (λ (q : Replayed). Markable q (length b)) (ltb (f .extra .entries) limit) (λ e. tt) (λ e. h .kept .shape)
 markable-all (R.Refused c) h = tt
 
-record Ring (h : Shape) (size : ℕ) : Type 0 where
-  some : 0 < h .m
-  few : h .m ≤ 16
-  most : h .pairs ≤ h .m
-  ring : h .oldest < h .m
-  area : areaWords (h .n) (h .m) ≤ size
-
-held-ring : (h : Shape) (size : ℕ) → shapeHeld h size ≡ true → Ring h size
-held-ring h size k = search (and-l, and-r, ltb-true, leb-true) depth 9
-
-held-sound : (h : Shape) (size : ℕ) → shapeHeld h size ≡ true → Sound h size
-held-sound h size k = let r = held-ring h size k in omega (arith, r)
-
 module _ {o : Options} {n : ℕ} {s : Setup} {t : Fit} {was a : List Float} (k : Opened o n s was t a) where
   opened-setup : setupAt (t .options) (view a (t .shape .n)) ≡ s
   opened-setup = rw (k .options, k .n) (k .setup)
@@ -154,7 +139,7 @@ module _ {o : Options} {n : ℕ} {s : Setup} {t : Fit} {was a : List Float} (k :
     kept-area {f} {b} h =
         let needed : areaWords (f .shape .n) (f .shape .m) ≡ areaNeeded s
         = ap (λ (x : Terms). areaWords (x .n) (x .maxcor)) (h .terms ∙ ap (λ (x : M.Machine). x .terms) (k .is)) in
-        omega (arith, needed, held-ring (f .shape) (length b) (h .shape) .area)
+        omega (arith, needed, shape-facts (f .shape) (length b) (h .shape) .area)
 
     -- the free vectors pass through the opening, the replay and the mark
     kept-free : {f : Fit} {b c : List Float} → Keeps t a ws limit room f b → Marks (f .shape) b c → FreeKept (view was (f .shape .n)) (view c (f .shape .n))
@@ -165,7 +150,7 @@ module _ {o : Options} {n : ℕ} {s : Setup} {t : Fit} {was a : List Float} (k :
     built : {f : Fit} {b c : List Float} → Replays t a ws limit room (R.Done f) b → Marks (f .shape) b c → Built s ws limit room was f c
     built {f} {b} {c} h m =
         let kept = h .kept in
-        let sound = held-sound (f .shape) (length b) (kept .shape) in
+        let sound = shape-sound (shape-facts (f .shape) (length b) (kept .shape)) in
         let same = marked-machine f b c sound m in
         record {
           long = m .size ∙ h .size ∙ k .long;

@@ -1,7 +1,7 @@
 -- Laws of reading: words by number, where a record stands, and what each check ahead of the entries makes of the definition's reading. Assumes nothing.
 use mathlib.Core.Path.{_≡_, refl, sym, ap, ap₂, _∙_}
-use mathlib.Core.Bool.{Bool, true, false, not, cond, _&&_, _||_}
-use mathlib.Core.List.{List, [], _∷_}
+use mathlib.Core.Bool.{Bool, true, false, not, cond, _&&_}
+use mathlib.Core.List.{List, _∷_}
 use mathlib.Core.Option.{none, some}
 use Prim.Native.Nat.{ℕ, zero, suc, _+_, _-_, _*_, _/_, _%_, _≤_, _<_}
 use native.Mathlib.Omega.{arith}
@@ -14,6 +14,7 @@ use Rattle.definition.specs.Number.{toFloat}
 use Rattle.definition.specs.Problem.{validate, _then_, orElse, areaNeeded, areaWords, maxcorOf}
 use Rattle.definition.specs.Log.{entriesOf}
 use Rattle.definition.specs.Record.{numberOf, wordsOf, sums, framed, malformed, nIn, maxcorIn, hasBox, setupLength, floatsAt, setupIn, checkArea, checkWords, unlessRefused, Reading, readingOf, readWords, readRecord, Lengths, plainRefusal}
+use Rattle.definition.proofs.Tests.{both-true, both-false}
 use Rattle.definition.proofs.Bytes.{wordsOf-length}
 use Rattle.definition.proofs.Accepted.{accepted-in-limits}
 use Rattle.problem.specs.Setups as P
@@ -97,14 +98,10 @@ pub record Fitting (bs : List ℕ) : Type 0 where
   pub known : framed (length bs) (trailerIn bs) ≡ true
   pub room : 8 * getD (trailerIn bs) 3 0 ≤ length bs - 32
 
-both : (a b : Bool) → (a && b) ≡ true → (a ≡ true) × (b ≡ true)
-both true b e = (refl, e)
-both false b e = (e, cc)
-
 pub framed-fits : (bs : List ℕ) → framedIn bs ≡ true → Fitting bs
 framed-fits bs e =
-    let a = both (not (ltb (length bs) 32)) (framed (length bs) (trailerIn bs)) e in
-    let b = both (eqb (getD (trailerIn bs) 2 0) 1) (leb (8 * getD (trailerIn bs) 3 0) (length bs - 32)) (a .1) in
+    let a = both-true (not (ltb (length bs) 32)) (framed (length bs) (trailerIn bs)) e in
+    let b = both-true (eqb (getD (trailerIn bs) 2 0) 1) (leb (8 * getD (trailerIn bs) 3 0) (length bs - 32)) (a .1) in
     record {
       long = ltb-false (length bs) 32 (true-not (ltb (length bs) 32) (a .0));
       known = a .1;
@@ -164,12 +161,8 @@ module _ (bs : List ℕ) (f : Frame) (h : Placed bs f) where
 
   pub form-whole : malformed (wordsIn bs f) ≡ false → f .setup ≤ f .words
   form-whole e =
-      let l = ltb-false (length (wordsIn bs f)) (setupLength (getD (wordsIn bs f) 0 0)) (first (ltb (length (wordsIn bs f)) (setupLength (getD (wordsIn bs f) 0 0))) _ e) in
+      let l = ltb-false (length (wordsIn bs f)) (setupLength (getD (wordsIn bs f) 0 0)) (both-false (ltb (length (wordsIn bs f)) (setupLength (getD (wordsIn bs f) 0 0))) _ e .0) in
       omega (arith, l, words-count, h .setup)
-    where
-      first : (a b : Bool) → (a || b) ≡ false → a ≡ false
-      first false b e = refl
-      first true b e = e
 
 -- ---- the definition's reading, check by check
 

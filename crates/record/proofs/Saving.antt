@@ -11,7 +11,7 @@ use lib.ListN.{length, getD, take, drop, length-append, length-map, List·getD-a
 use lib.Seq.{getD-append-add, take-suc, take-all, length-take-le}
 use lib.Ieee.{Float}
 use Rattle.definition.specs.Number.{toWord}
-use Rattle.definition.specs.Problem.{Scheme, orElse, validate}
+use Rattle.definition.specs.Problem.{Scheme, orElse, mostPairs, validate}
 use Rattle.definition.specs.Machine.{Reply}
 use Rattle.definition.specs.Log.{logWords}
 use Rattle.definition.specs.Book.{book}
@@ -132,7 +132,7 @@ accepted-savable o x0 l u e =
       upper = λ b. rw b at (k .upper);
     }
   where
-    given-small : (m : Option ℕ) → orElse m 10 ≤ 16 → orElse m 0 ≤ 255
+    given-small : (m : Option ℕ) → orElse m 10 ≤ mostPairs → orElse m 0 ≤ 255
     given-small none h = omega arith
     given-small (some m) h = omega arith
 

@@ -18,8 +18,7 @@ use Rattle.definition.specs.Solve.{Matrix, System, system, row, entry, put, sca
 use Rattle.definition.specs.Solve.{pivots, onColumn, column, triangular, backward, solve}
 use Rattle.area.specs.Area.{given}
 use Rattle.area.proofs.Laws.{Looped, looped-none, looped-more, looped-done, looped-stays}
-use Rattle.solve.specs.Answers.{systemIf}
-use Rattle.solve.specs.Factors.{clearedTo, stepped, forwardTo, Within, Eliminates, Clears, Triangular, regular, Factored, solvedWith}
+use Rattle.solve.specs.Factors.{clearedTo, stepped, forwardTo, Eliminates, Clears, Triangular, regular, Factored, solvedWith}
 
 -- ---- the columns of row i past k: a is t after d of them, p being row k of both
 

@@ -10,7 +10,7 @@ use lib.Ieee.{Float}
 use lib.Ieee.Scale.{finite}
 use Rattle.definition.specs.Number.{minus, times, zero64}
 use Rattle.definition.specs.Vector.{foldTo, word, allFinite, _andThen_, finiteOnly}
-use Rattle.definition.specs.Solve.{Matrix, System, row, system, swapWords, scaleOf, eliminated, column, triangular, backward}
+use Rattle.definition.specs.Solve.{Matrix, row, system, swapWords, scaleOf, eliminated, column, triangular, backward}
 use Rattle.solve.specs.Answers.{systemIf}
 
 -- ---- the right side

@@ -18,7 +18,7 @@ use Rattle.area.specs.Area.{Vecs, foldRows}
 use Rattle.compact.specs.declared.Shape.{Shape}
 use Rattle.compact.specs.State.{columnSlot, compactOf, Modelled}
 use Rattle.compact.proofs.Laws.{tab-same, fold-same, padded-get, pairs-count}
-use Rattle.subspace.specs.State.{freeIn, freeTerm, columnsIn, grid, rowEach, each, productTo, fourTo, addRows, Held, addFree, reducedBy, freeSumAt, reducedAt}
+use Rattle.subspace.specs.State.{freeIn, columnsIn, grid, rowEach, each, productTo, fourTo, addRows, Held, addFree, reducedBy, freeSumAt, reducedAt}
 use Rattle.subspace.proofs.Laws.{reduced-is}
 
 -- ---- place n, after a table of n

@@ -44,9 +44,11 @@ reduced-is {h} {theta} {m} {v} i j s r k l e =
     e ∙ free-same (h .n) v _ _ (λ d n t. times (laid-word (r .laid) i d k n t) (laid-word (r .laid) j d l n t)) in
     λ t. minus (modelled-entry i j r k l t) (over (f t) theta)
 
-pub right-is : {h : Shape} {theta : Float} {v : Vecs} (i : ℕ) → Laid h theta v → i < 2 * h .pairs
-    → freeSumAt (h .n) v (columnSlot h i) ProductD ≡ freeSum (h .n) (boundsOf v) (v Cauchy) (λ k. times (columnWord (compactOf h theta v) i k) (word (v ProductD) k))
-right-is {h} {theta} {v} i r k = free-same (h .n) v _ _ (λ d n t. times (laid-word r i d k n t) (word (v ProductD) d))
+pub right-is : {h : Shape} {theta : Float} {v : Vecs} (i q : ℕ) → Laid h theta v → i < 2 * h .pairs → q ≡ columnSlot h i
+    → freeSumAt (h .n) v q ProductD ≡ freeSum (h .n) (boundsOf v) (v Cauchy) (λ k. times (columnWord (compactOf h theta v) i k) (word (v ProductD) k))
+right-is {h} {theta} {v} i q r k e =
+    ap (λ (j : ℕ). freeSumAt (h .n) v j ProductD) e
+    ∙ free-same (h .n) v _ _ (λ d n t. times (laid-word r i d k n t) (word (v ProductD) d))
 
 -- ---- the corrections: b is a, whose step is -0 throughout, with the first k columns added to the step
 
@@ -63,12 +65,12 @@ added-none {h} {z} {a} o e =
     let x = tab (h .n) (λ i. negZero) in
     record { upto = omega arith; is = e ∙ sym (upd-twice o Step x x) ∙ ap (λ (y : Vecs). upd y Step x) (sym e) }
 
-pub added-more : {h : Shape} {z : List Float} {k : ℕ} {a b d : Vecs} → Added h z a b k → k < 2 * h .pairs
-    → d ≡ rowwise (h .n) Step (λ (i : ℕ) v. plus (v Step) (times (v (columnSlot h k)) (word z k))) b → Added h z a d (k + 1)
+pub added-more : {h : Shape} {z : List Float} {k : ℕ} {a b d : Vecs} → Added h z a b k → k < 2 * h .pairs → (q : ℕ) → q ≡ columnSlot h k
+    → d ≡ rowwise (h .n) Step (λ (i : ℕ) v. plus (v Step) (times (v q) (word z k))) b → Added h z a d (k + 1)
 unfolding rowwise foldTo
-added-more {h} {z} {k} {a} {b} {d} r l e =
+added-more {h} {z} {k} {a} {b} {d} r l q c e =
     let x = tab (h .n) (addedOf h z a k) in
-    let column : b (columnSlot h k) ≡ a (columnSlot h k) = (λ t. r .is t (columnSlot h k)) ∙ upd-other a Step (columnSlot h k) x (λ e. omega arith) in
+    let column : b q ≡ a (columnSlot h k) = ap b c ∙ (λ t. r .is t (columnSlot h k)) ∙ upd-other a Step (columnSlot h k) x (λ e. omega arith) in
     let more : ℕ → Float = λ (i : ℕ). plus (word x i) (times (word (a (columnSlot h k)) i) (word z k)) in
     record {
       upto = omega arith;

@@ -154,7 +154,7 @@ fn gather(area: &[f64], h: compact::Shape, k: usize) -> [f64; 32]
     let mut r = compact::zeros();
     let mut j = 0;
     while j < size {
-        r[j] = area::get(area, h.n, area::FIRST_PAIR + 2 * h.m + j, k);
+        r[j] = area::get(area, h.n, compact::column_slot(h, j), k);
         j += 1;
     }
     r
@@ -303,7 +303,7 @@ fn reduced_right(area: &[f64], h: compact::Shape, theta: f64) -> [f64; 32]
     let mut r = compact::zeros();
     let mut i = 0;
     while i < size {
-        r[i] = free_sum(area, h.n, area::FIRST_PAIR + 2 * h.m + i, area::PRODUCT_D);
+        r[i] = free_sum(area, h.n, compact::column_slot(h, i), area::PRODUCT_D);
         i += 1;
     }
     r
@@ -342,7 +342,7 @@ fn corrections(area: &mut [f64], h: compact::Shape, theta: f64, z: [f64; 32])
     area::fill(area, h.n, area::STEP, float::NEG_ZERO);
     let mut k = 0;
     while k < size {
-        add_column(area, h.n, area::FIRST_PAIR + 2 * h.m + k, z[k]);
+        add_column(area, h.n, compact::column_slot(h, k), z[k]);
         k += 1;
     }
 }

@@ -1,7 +1,7 @@
 -- `accept::check_start` meets its contract. Assumes nothing.
 use mathlib.Core.Path.{_∙_}
 use borrow.Author.Needs.{needs}
-use Rattle.problem.proofs.Accepted.{accepted}
+use Rattle.definition.proofs.Accepted.{accepted-in-limits}
 use Rattle.accept.proofs.Checks.{passed, first-refuses, rest-decides}
 use Rattle.accept.proofs.check_start.Statement.{statement}
 use Rattle.accept.proofs.check_start.Tie as tie
@@ -11,8 +11,8 @@ returns c = λ l. first-refuses _ (c .enum-told2 .given .1) (c .before .before .
 
 check-area-requires : tie.Need-check-area-requires
 check-area-requires c κs =
-    let h = accepted _ (passed (c .enum-told .given .1) (c .before .before .validate .ensures)) in
-    (h .n-high, h .pairs-high)
+    let h = accepted-in-limits _ (passed (c .enum-told .given .1) (c .before .before .validate .ensures)) in
+    (h .coordinates .1, h .pairs .1)
 
 returns-2 : tie.Need-returns-2
 returns-2 c =

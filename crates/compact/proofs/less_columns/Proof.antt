@@ -24,13 +24,22 @@ loop-holds c =
     let s = rw (← c .before .area .given) at (c .before .before .before .before .before .before .pre .0) in
     (lessened-none (length-view _ _ _ (vector-room _ s (omega arith))), refl)
 
+column-slot-requires : tie.Need-column-slot-requires Inv-loop μ-loop
+column-slot-requires c κs = let s = c .before .before .before .before .before .before .before .before .before .pre .0 in (s .few, omega (arith, s .most))
+
 less-requires : tie.Need-less-requires Inv-loop μ-loop
 less-requires c κs =
-    let s = rw (← c .before .before .before .before .before .area .given, ← c .before .before .before .loop .inv .1) at (c .before .before .before .before .before .before .before .before .before .before .pre .0) in
+    let l = c .before .before .before in
+    let a = l .before .before in
+    let s = rw (← a .area .given, ← l .loop .inv .1) at (a .before .before .before .before .before .pre .0) in
     (vector-room _ s (omega arith), vector-room _ s (omega arith))
 
 loop-again : tie.Need-loop-again Inv-loop μ-loop
-loop-again c = (lessened-more (c .before .before .before .before .before .before .loop .inv .0) (c .before .before .before .before .before .before .before .before .before .before .before .before .before .pre .2) (omega arith) (c .before .before .less .ensures), c .before .area2 .given ∙ c .before .before .before .before .before .before .loop .inv .1)
+loop-again c =
+    let k = c .before .before .before in
+    let l = k .before .before .before in
+    let s = l .before .before .before .before .before .before .before in
+    (lessened-more (l .loop .inv .0) (s .pre .2) (omega arith) _ (k .column-slot .ensures) (c .before .before .less .ensures), c .before .area2 .given ∙ l .loop .inv .1)
 
 returns : tie.Need-returns Inv-loop μ-loop
 returns c = lessened-done _ (c .before .before .before .before .before .before .before .before .pre .1) (c .before .before .before .before .before .before .before .before .pre .2) (c .before .before .before .before .scale .ensures) (c .before .loop .inv .0) (omega arith)
@@ -44,9 +53,7 @@ less-columns-spec =
     (λ c. search laws)
     scale-requires
     loop-holds
-    (λ c. search laws)
-    (λ c. search laws)
-    (λ c. search laws)
+    column-slot-requires
     (λ c. search laws)
     (λ c. search laws)
     less-requires

@@ -1,19 +1,14 @@
--- `compact::pair_slot` meets its contract: the place is one of the m. Assumes nothing.
-use mathlib.Core.Path.{refl}
+-- `compact::pair_slot` meets its contract. Assumes nothing.
 use native.Mathlib.Omega.{arith}
-use borrow.Author.Needs.{needs}
-use Rattle.compact.proofs.Laws.{place-below, slot-is}
+use Rattle.compact.proofs.Laws.{slot-is}
 use Rattle.compact.proofs.pair_slot.Statement.{statement}
 use Rattle.compact.proofs.pair_slot.Tie as tie
 
-mul-result : tie.Need-mul-result
-mul-result c = let l = place-below _ _ (c .before .before .before .pre .0) (omega arith) (c .wrapped .ensures) in omega arith
-
-add-result : tie.Need-add-result
-add-result c = let l = place-below _ _ (c .before .before .before .pre .0) (omega arith) (c .wrapped .ensures) in omega arith
+place-slot-requires : tie.Need-place-slot-requires
+place-slot-requires c κs = let s = c .before .pre .0 in (s .ring, omega (arith, s .most), s .few)
 
 returns : tie.Need-returns
-returns c = slot-is _ _ _ _ _ (c .before .before .before .pre .0) (c .before .before .before .pre .1) (c .wrapped .ensures) refl
+returns c = slot-is _ _ _ _ (c .before .before .pre .0) (c .before .before .pre .1) (c .place-slot .ensures)
 
 pub pair-slot-spec : {M : Type 1} → statement M
-pair-slot-spec = tie.close (tie.spec (λ c. search needs) (λ c κs. search needs) mul-result add-result returns)
+pair-slot-spec = tie.close (tie.spec place-slot-requires returns)

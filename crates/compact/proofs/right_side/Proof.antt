@@ -22,13 +22,20 @@ abbrev μ-loop : tie.MeasureT-loop
 loop-holds : tie.Need-loop-holds Inv-loop μ-loop
 loop-holds c = padding-none (omega arith) (c .zeros .ensures)
 
+column-slot-requires : tie.Need-column-slot-requires Inv-loop μ-loop
+column-slot-requires c κs = let s = c .before .before .before .before .before .pre .0 in (s .few, omega (arith, s .most))
+
 dot-requires : tie.Need-dot-requires Inv-loop μ-loop
-dot-requires c κs = (vector-room _ (c .before .before .before .before .before .before .pre .0) (omega arith), vector-room _ (c .before .before .before .before .before .before .pre .0) (omega arith))
+dot-requires c κs =
+    let s = c .before .before .before .before .before .before .pre .0 in
+    (vector-room _ s (omega arith), vector-room _ s (omega arith))
 
 loop-again : tie.Need-loop-again Inv-loop μ-loop
 loop-again c =
-    let a = c .before .before .before .before .before .before .before .args in
-    padding-more (c .before .before .before .loop .inv) (omega arith) (c .dot .ensures ∙ laid-dot (c .before .before .before .before .before .before .before .pre .1) _ (view (now (a .area)) (a .h .n) (a .q)) (omega arith))
+    let s = c .before .before .before .before .before .before .before in
+    let a = s .args in
+    padding-more (c .before .before .before .loop .inv) (omega arith)
+    (c .dot .ensures ∙ laid-dot (s .pre .1) _ _ (view (now (a .area)) (a .h .n) (a .q)) (omega arith) (c .before .column-slot .ensures))
 
 returns : tie.Need-returns Inv-loop μ-loop
 returns c = rw pairs-count (padding-done (c .before .loop .inv) (omega arith))
@@ -42,9 +49,7 @@ right-side-spec =
     (λ c. search laws)
     (λ c κs. search laws)
     loop-holds
-    (λ c. search laws)
-    (λ c. search laws)
-    (λ c. search laws)
+    column-slot-requires
     dot-requires
     (λ c. search laws)
     (λ c. search laws)

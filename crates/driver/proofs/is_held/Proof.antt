@@ -6,12 +6,13 @@ use borrow.Author.Needs.{needs}
 use denote.Ref.{now}
 use lib.ListN.{length}
 use Rattle.float.proofs.Constants.{one-is}
-use Rattle.driver.proofs.Steps.{Behind, ready-shape, unready-unheld, ready-marked, mark-behind, mark-most}
+use Rattle.driver.proofs.Laws.{ready-facts}
+use Rattle.driver.proofs.Steps.{Behind, unready-unheld, ready-marked, mark-behind, mark-most}
 use Rattle.driver.proofs.is_held.Statement.{statement}
 use Rattle.driver.proofs.is_held.Tie as tie
 
 place : (c : tie.Else1) → (let s = c .before .before .before in Behind (s .args .t .shape) (length (now (s .args .area))))
-place c = mark-behind _ _ (ready-shape _ _ (sym (c .before .is-ready .ensures) ∙ not-false _ (c .if1 .left)))
+place c = mark-behind _ _ (ready-facts _ _ (sym (c .before .is-ready .ensures) ∙ not-false _ (c .if1 .left)) .shape)
 
 returns : tie.Need-returns
 returns c = unready-unheld _ _ (sym (c .before .is-ready .ensures) ∙ not-true _ (c .if1 .taken))

@@ -1,5 +1,5 @@
 -- `measure::judge_trial` meets its contract: the trial is learnt from and moved to, or the search goes on or has failed. Assumes nothing.
-use mathlib.Core.Path.{refl, ap}
+use mathlib.Core.Path.{ap}
 use borrow.Author.Needs.{needs}
 use Rattle.definition.specs.Machine.{Machine}
 use Rattle.definition.specs.Driver.{learn}

@@ -1,5 +1,4 @@
 -- `measure::measured` meets its contract: each place by the definition's clause for it. Assumes nothing.
-use mathlib.Core.Path.{refl}
 use borrow.Author.Needs.{needs}
 use Rattle.fit.proofs.Laws.{steps-then}
 use Rattle.measure.proofs.measured.Statement.{statement}

@@ -1,5 +1,5 @@
 -- `script::run_script` meets its contract: one call more with each turn. Assumes nothing.
-use Prim.Native.Nat.{ℕ, _≤_, _-_, _/_}
+use Prim.Native.Nat.{_≤_, _-_, _/_}
 use mathlib.Core.Path.{_≡_, refl, ap, _∙_}
 use native.Mathlib.Omega.{arith}
 use borrow.Author.Needs.{needs}

@@ -1,5 +1,5 @@
 -- `solve::factor` meets its contract: the scale decides, then each column. Assumes nothing.
-use mathlib.Core.Path.{_≡_, sym, ap, _∙_}
+use mathlib.Core.Path.{sym, ap, _∙_}
 use borrow.Author.Needs.{needs}
 use borrow.Author.Tests.{not-true, not-false}
 use Rattle.solve.specs.Factors.{regular}

@@ -1,6 +1,6 @@
 -- `solve::raised` meets its contract: where m is not a NaN, `max` is one comparison, which no NaN passes. Assumes nothing.
-use mathlib.Core.Path.{_≡_, refl, sym, ap, _∙_}
-use mathlib.Core.Bool.{true, false, cond}
+use mathlib.Core.Path.{_≡_, refl, sym}
+use mathlib.Core.Bool.{true, false}
 use borrow.Author.Needs.{needs}
 use lib.Ieee.{Float, nan, inf, fin, lt, isNan}
 use Rattle.definition.specs.Number.{max}

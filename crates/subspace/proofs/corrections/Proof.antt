@@ -19,15 +19,21 @@ abbrev μ-loop : tie.MeasureT-loop
 loop-holds : tie.Need-loop-holds Inv-loop μ-loop
 loop-holds c = (added-none _ (rw neg-zero-is at (c .before .before .fill .ensures)), refl)
 
+column-slot-requires : tie.Need-column-slot-requires Inv-loop μ-loop
+column-slot-requires c κs = let s = c .before .before .before .before .before .before .before .before .before .pre .0 in (s .few, omega (arith, s .most))
+
 add-column-requires : tie.Need-add-column-requires Inv-loop μ-loop
 add-column-requires c κs =
-    let s = rw (← c .before .before .before .before .before .area .given, ← c .before .before .before .loop .inv .1) at (c .before .before .before .before .before .before .before .before .before .before .pre .0) in
+    let l = c .before .before .before in
+    let a = l .before .before in
+    let s = rw (← a .area .given, ← l .loop .inv .1) at (a .before .before .before .before .before .pre .0) in
     (omega (arith, vector-room 15 s (omega arith)), vector-room _ s (omega arith))
 
 loop-again : tie.Need-loop-again Inv-loop μ-loop
 loop-again c =
-    let r = c .before .before .before .before .before .before .loop .inv in
-    (added-more (r .0) (omega arith) (c .before .before .add-column .ensures), c .before .area2 .given ∙ r .1)
+    let k = c .before .before .before in
+    let r = k .before .before .before .loop .inv in
+    (added-more (r .0) (omega arith) _ (k .column-slot .ensures) (c .before .before .add-column .ensures), c .before .area2 .given ∙ r .1)
 
 returns : tie.Need-returns Inv-loop μ-loop
 returns c = added-done (c .before .before .before .before .before .before .before .before .pre .1) (rw neg-zero-is at (c .before .before .before .before .fill .ensures)) (c .before .loop .inv .0) (omega arith)
@@ -41,9 +47,7 @@ corrections-spec =
     (λ c. search laws)
     (λ c κs. search laws)
     loop-holds
-    (λ c. search laws)
-    (λ c. search laws)
-    (λ c. search laws)
+    column-slot-requires
     (λ c. search laws)
     (λ c. search laws)
     add-column-requires

@@ -25,6 +25,9 @@ abbrev μ-loop : tie.MeasureT-loop
 loop-holds : tie.Need-loop-holds Inv-loop μ-loop
 loop-holds c = padding-none (omega arith) (c .zeros .ensures)
 
+column-slot-requires : tie.Need-column-slot-requires Inv-loop μ-loop
+column-slot-requires c κs = let s = c .before .before .before .before .before .pre .0 in (s .few, omega (arith, s .most))
+
 free-sum-requires : tie.Need-free-sum-requires Inv-loop μ-loop
 free-sum-requires c κs =
     let s = c .before .before .before .before .before .before .pre .0 in
@@ -33,7 +36,8 @@ free-sum-requires c κs =
 loop-again : tie.Need-loop-again Inv-loop μ-loop
 loop-again c =
     let r = c .before .before .before in
-    padding-more (r .loop .inv) (omega arith) (c .free-sum .ensures ∙ right-is _ (r .before .before .before .before .pre .1) (omega arith))
+    padding-more (r .loop .inv) (omega arith)
+    (c .free-sum .ensures ∙ right-is _ _ (r .before .before .before .before .pre .1) (omega arith) (c .before .column-slot .ensures))
 
 returns : tie.Need-returns Inv-loop μ-loop
 returns c = rw pairs-count (padding-done (c .before .loop .inv) (omega arith))
@@ -47,9 +51,7 @@ reduced-right-spec =
     (λ c. search laws)
     (λ c κs. search laws)
     loop-holds
-    (λ c. search laws)
-    (λ c. search laws)
-    (λ c. search laws)
+    column-slot-requires
     free-sum-requires
     (λ c. search laws)
     (λ c. search laws)
