@@ -140,7 +140,8 @@ earlier {h} {theta} {a} {ok} {b} r =
     ap (λ (u : Vecs). C.product (h .n) (compactOf h theta u) (u Displacement)) (r .frame)
     ∙ ap (λ (c : C.Compact). C.product (h .n) c (a Displacement)) (compact-upd h theta a ProductD (b ProductD) (omega arith))
 
-pub product-kept : {h : Shape} {theta : Float} {q : ℕ} {a : Vecs} {ok : Bool} {b : Vecs} (k : ℕ) → Multiplied h theta k q a ok b → 8 ≤ k → k < firstFree → ScratchOnly a b
+pub product-kept : {h : Shape} {theta : Float} {q : ℕ} {a : Vecs} {ok : Bool} {b : Vecs} (k : ℕ) → Multiplied h theta k q a ok b → 8 ≤ k → k < firstFree
+    → ScratchOnly a b
 product-kept k r l m = rw (r .frame) (scratch-upd k _ l m scratch-refl)
 
 module _ (h : Shape) (theta : Float) (b : Breaks) (p : Path) {v : Vecs} {s : Bool} (at : s ≡ still (h .n) (v Velocity)) where

@@ -100,7 +100,8 @@ pub laid-dot : {h : Shape} {theta : Float} {v : Vecs} → Laid h theta v → (k 
     → dot (h .n) (v q) w ≡ columnDot (h .n) (compactOf h theta v) k w
 laid-dot {h} {theta} {v} r k q w l e =
     ap (λ (j : ℕ). dot (h .n) (v j) w) e
-    ∙ fold-same (h .n) (λ i s. plus s (times (word (v (columnSlot h k)) i) (word w i))) (λ i s. plus s (times (columnWord (compactOf h theta v) k i) (word w i))) negZero
+    ∙ fold-same (h .n) (λ i s. plus s (times (word (v (columnSlot h k)) i) (word w i)))
+    (λ i s. plus s (times (columnWord (compactOf h theta v) k i) (word w i))) negZero
     (λ i s m. ap (λ (x : Float). plus s (times x (word w i))) (laid-word r k i l m))
 
 -- ---- vector p less the first k columns with their weights z: b is a with that vector

@@ -82,7 +82,8 @@ prepared-upd {a = a} p v l r = prepared-kept (upd a p v) (high-upd a p v l) r
 pub multiplied-high : {h : Shape} {theta : Float} {p q : ℕ} {a b : Vecs} {ok : Bool} → p < firstPair → Multiplied h theta p q a ok b → HighKept a b
 multiplied-high {p = p} {a = a} {b = b} l r = λ j k. (λ i. r .frame i j) ∙ upd-other a p j (b p) (λ e. omega arith)
 
-pub multiplied-scratch : {h : Shape} {theta : Float} {p q : ℕ} {a b : Vecs} {ok : Bool} → 8 ≤ p → p < firstFree → Multiplied h theta p q a ok b → ScratchOnly a b
+pub multiplied-scratch : {h : Shape} {theta : Float} {p q : ℕ} {a b : Vecs} {ok : Bool} → 8 ≤ p → p < firstFree → Multiplied h theta p q a ok b
+    → ScratchOnly a b
 multiplied-scratch {p = p} {a = a} {b = b} g l r =
     let other : (j : ℕ) → (j ≡ p → ⊥) → b j ≡ a j = λ j n. (λ i. r .frame i j) ∙ upd-other a p j (b p) n in
     record { low = λ j k. other j (λ e. omega arith); free = λ j k m. other j (λ e. omega arith); high = multiplied-high (omega (arith, l)) r }

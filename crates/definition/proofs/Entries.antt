@@ -1,4 +1,5 @@
--- A log read: due replies come back from their words, whatever is read was due and spells those words, all is read, and a room for all the words is never short.
+-- A log read: due replies come back from their words, whatever is read was due and spells those words, all is read, and a room for all the words is
+-- never short.
 -- Assumes nothing.
 use Prim.Native.Nat.{ℕ, zero, suc, _+_, _-_, _≤_}
 use native.Mathlib.Nat.{zero-add}

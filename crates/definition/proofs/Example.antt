@@ -89,9 +89,11 @@ unfolding opened
 script-kept = refl
 
 -- a log of 8 words, an area of 495
+abbrev atNotice : List Reply
+atNotice = Reply.gradient (0 ∷ []) ∷ Reply.value 0 ∷ Reply.gradient (toWord four ∷ []) ∷ Reply.value (toWord eight) ∷ []
+
 pub too-short :
-    (historyAnswers (lengths 496 8) (History.fit (book parabola (Reply.gradient (0 ∷ []) ∷ Reply.value 0 ∷ Reply.gradient (toWord four ∷ []) ∷ Reply.value (toWord eight) ∷ []))) (Call.reply Reply.goOn ∷ [])
-    ≡ refused 12 0 0 ∷ [])
+    (historyAnswers (lengths 496 8) (History.fit (book parabola atNotice)) (Call.reply Reply.goOn ∷ []) ≡ refused 12 0 0 ∷ [])
     × (historyAnswers (lengths 495 9) History.empty (Call.start parabola ∷ []) ≡ refused 11 496 0 ∷ [])
 unfolding opened
 too-short = (refl, refl)

@@ -65,7 +65,8 @@ module _ (z : Lengths) (b : Book) (ok : Sound z b) (f : SetupFloats (b .setup)) 
   saved-read : readWords z saved (sums saved .plain) (sums saved .running) ≡ Reading.accepted b
   unfolding readWords
   saved-read =
-      rw (saved-checked, behind-setup, setup-back (b .setup) (logOf b) (ok .accepted) f) (ap (readingOf (b .setup)) (log-back (b .setup) (z .log) (b .replies) (ok .due) (ok .log)))
+      rw (saved-checked, behind-setup, setup-back (b .setup) (logOf b) (ok .accepted) f)
+      (ap (readingOf (b .setup)) (log-back (b .setup) (z .log) (b .replies) (ok .due) (ok .log)))
 
 fit-words : (b : Book) → Accepted (b .setup) → SetupFloats (b .setup) → ReplyWords (b .replies) → Words (setupWords (b .setup) ++ logOf b)
 fit-words b a f w = each-join _ (setupWords (b .setup)) (logOf b) (setup-words-fit (b .setup) a f) (log-words (b .replies) w)
@@ -91,7 +92,8 @@ changed-record-refused z ahead b i w a d f r at small other =
     let ws = setupWords (b .setup) ++ logOf b in
     let here : i < length ws = omega (arith, record-length b, at) in
     rw (set-append-left ws (trailer ws) i w here)
-    (one-changed-word z ahead ws i w (fit-words b a f r) (omega (arith, record-length b, size)) here small (λ e. other (e ∙ sym (List·getD-append ws (trailer ws) 0 i here))))
+    (one-changed-word z ahead ws i w (fit-words b a f r) (omega (arith, record-length b, size)) here small
+    (λ e. other (e ∙ sym (List·getD-append ws (trailer ws) 0 i here))))
 
 -- ---- from what is accepted to the record
 
@@ -149,7 +151,9 @@ module _ (z : Lengths) (bs : List ℕ) (b : Book) (e : readRecord z bs ≡ Readi
   log = log-sound (setupIn (found .ws)) (z .log) (drop (setupLength (getD (found .ws) 0 0)) (found .ws)) (b .replies) (reading .entries)
 
   pub accepted-sound : Sound z b
-  accepted-sound = subst (λ (t : Setup). Sound z (book t (b .replies))) (reading .setup) (record { accepted = reading .accepted; due = log .due; area = reading .area; log = log .fits })
+  accepted-sound =
+      subst (λ (t : Setup). Sound z (book t (b .replies))) (reading .setup)
+      (record { accepted = reading .accepted; due = log .due; area = reading .area; log = log .fits })
 
   pub accepted-floats : SetupFloats (b .setup)
   accepted-floats = subst SetupFloats (reading .setup) (setup-read (found .ws))

@@ -151,7 +151,8 @@ range-within (Ended t) n h = tt
 -- with a log that the test lets pass it passes the test, whether or not the setup is accepted
 pub few-ready :
     (t : Fit) (size : ℕ) (a : List Float) (s : Setup) (rs : List M.Reply) → Due s rs → machineOf t a ≡ run s rs → shapeHeld (t .shape) size ≡ true
-    → placesIn (t .options) ≡ t .shape .m → t .extra .entries ≡ length rs → t .extra .words ≡ length (logWords rs) → t .extra .words < mostWords → isReady t size ≡ true
+    → placesIn (t .options) ≡ t .shape .m → t .extra .entries ≡ length rs → t .extra .words ≡ length (logWords rs) → t .extra .words < mostWords
+    → isReady t size ≡ true
 few-ready t size a s rs d e h p n w few =
     let k = shape-facts (t .shape) size h in
     let entries : t .extra .entries < mostWords = omega (arith, entries-most rs) in

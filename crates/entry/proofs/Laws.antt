@@ -77,7 +77,8 @@ module _ (room : ℕ) (b : Book) (a : Accepted (b .setup)) (h : P.mostCoordinate
       ≡ cond (unreported (runOf b .phase)) (H.Answer.refused (plainRefusal 15)) whole
   report-answered = go (unreported (runOf b .phase))
     where
-      go : (t : Bool) → refusedBy (when t (refuse 15 0 0) then outputShort room (dimension (b .setup))) whole ≡ cond t (H.Answer.refused (plainRefusal 15)) whole
+      go : (t : Bool)
+          → refusedBy (when t (refuse 15 0 0) then outputShort room (dimension (b .setup))) whole ≡ cond t (H.Answer.refused (plainRefusal 15)) whole
       go true = refl
       go false = rw fits
 

@@ -47,7 +47,8 @@ read-short bs z h a l =
     rw (le-ltb mostBytes (length bs) h) (sym (read-plenty bs h) ∙ ap (λ (x : Lengths). readRecord x bs) (sym same))
 
 pub taken-restored : (bs : List ℕ) (f : Fit) (r : Answer) (a : List Float) (l : List ℕ) (a' : List Float) (l' : List ℕ)
-    → length bs ≤ mostBytes → length a ≡ inputArea → length l ≡ inputLog → Restored bs (words f a l) (words (next f r) a' l') (kept r) → Taken (readInput bs) r a' l'
+    → length bs ≤ mostBytes → length a ≡ inputArea → length l ≡ inputLog → Restored bs (words f a l) (words (next f r) a' l') (kept r)
+    → Taken (readInput bs) r a' l'
 taken-restored bs f r a l a' l' h n k d =
     rw (read-short bs (lengths (words f a l)) h n k)
     (restored-taken (readRecord (lengths (words f a l)) bs) f r (words f a l) a' l' (d .always) (d .restores))

@@ -61,7 +61,8 @@ made-same F {h} theta {a} {b} s k t n q =
 abbrev pointAt : Shape → Float → Vecs → Option (List Float)
 pointAt h theta v = generalizedCauchy (h .n) (boundsOf v) (compactOf h theta v) (v X) (v G)
 
-ends-from : (t : Terms) (c : Compact) (h : State) {o : Option (List Float)} → o ≡ generalizedCauchy (t .n) (t .bounds) c (h .x) (h .g) → (o andThen endsFrom t c h) ≡ endsOf t c h
+ends-from : (t : Terms) (c : Compact) (h : State) {o : Option (List Float)} → o ≡ generalizedCauchy (t .n) (t .bounds) c (h .x) (h .g)
+    → (o andThen endsFrom t c h) ≡ endsOf t c h
 unfolding endsOf
 ends-from t c h e = ap (λ (o : Option (List Float)). o andThen endsFrom t c h) e
 

@@ -41,7 +41,8 @@ start-refused s w r e = record {
   log = refl;
 }
 
-pub start-done : (s : P.Setup) (w w' : Words) → (validate s then checkArea (lengths w) s) ≡ none → lengths w' ≡ lengths w → w' .log ≡ w .log → Held w' (openedBook s)
+pub start-done : (s : P.Setup) (w w' : Words) → (validate s then checkArea (lengths w) s) ≡ none → lengths w' ≡ lengths w → w' .log ≡ w .log
+    → Held w' (openedBook s)
     → Started s w w' H.Answer.done
 start-done s w w' e z l h = record {
   did = record { sized = z; holds = λ g k. rw e h; said = λ g k. rw e refl };
@@ -113,7 +114,8 @@ reply-done r w w' t e z v m =
 
 -- ---- the fit advanced
 
-moved : {r : M.Reply} {t f : Fit} {a b : List Float} (l : List ℕ) → Advances r t a f b → Moved r (words t a l) (words f b (written (t .extra .words) (entryWords r) l))
+moved : {r : M.Reply} {t f : Fit} {a b : List Float} (l : List ℕ) → Advances r t a f b
+    → Moved r (words t a l) (words f b (written (t .extra .words) (entryWords r) l))
 moved {r} {t} {f} l h = record {
   is = h .is;
   setup = h .setup;

@@ -77,12 +77,16 @@ unheld-refused w j h l = check-empty w j h ∙ ap (λ (t : Bool). when t (refuse
 
 pub many-refused : (w : Words) (j : ℕ) → isHeld (w .state) (w .area) ≡ true → w .state .extra .entries < j → checkBack w j ≡ some (plainRefusal 16)
 many-refused w j h l =
-    check-held w j h ∙ ap (λ (t : Bool). when t (refuse 16 0 0) then when (ltb (length (w .log)) (w .state .extra .words)) (refuse 12 0 0)) (lt-ltb (w .state .extra .entries) j l)
+    check-held w j h
+    ∙ ap (λ (t : Bool). when t (refuse 16 0 0) then when (ltb (length (w .log)) (w .state .extra .words)) (refuse 12 0 0))
+    (lt-ltb (w .state .extra .entries) j l)
 
-pub short-refused : (w : Words) (j : ℕ) → isHeld (w .state) (w .area) ≡ true → j ≤ w .state .extra .entries → length (w .log) < w .state .extra .words → checkBack w j ≡ some (plainRefusal 12)
+pub short-refused : (w : Words) (j : ℕ) → isHeld (w .state) (w .area) ≡ true → j ≤ w .state .extra .entries → length (w .log) < w .state .extra .words
+    → checkBack w j ≡ some (plainRefusal 12)
 short-refused w j h l k =
     check-held w j h
-    ∙ ap₂ (λ (t u : Bool). when t (refuse 16 0 0) then when u (refuse 12 0 0)) (le-ltb (w .state .extra .entries) j l) (lt-ltb (length (w .log)) (w .state .extra .words) k)
+    ∙ ap₂ (λ (t u : Bool). when t (refuse 16 0 0) then when u (refuse 12 0 0)) (le-ltb (w .state .extra .entries) j l)
+    (lt-ltb (length (w .log)) (w .state .extra .words) k)
 
 pub unheld-kept : (w : Words) (j : ℕ) → isHeld (w .state) (w .area) ≡ false → j ≡ 0 → TakenBack j w w H.Answer.done
 unheld-kept w j h e =
@@ -168,7 +172,8 @@ module _ (t : Fit) (a : List Float) (l : List ℕ) (j : ℕ) (test : isHeld t a 
     }
 
   -- the entries that are to stay are there
-  module _ (f : Fit) (b : List Float) (h : Built (setupOf was) (logIn was) (t .extra .entries - j) (length l) a f b) (all : f .extra .entries ≡ t .extra .entries - j)
+  module _ (f : Fit) (b : List Float) (h : Built (setupOf was) (logIn was) (t .extra .entries - j) (length l) a f b)
+      (all : f .extra .entries ≡ t .extra .entries - j)
       (r : ReplayedTo (setupOf was) (logIn was) (length l) f b) where
     fewer-words : f .extra .words ≤ t .extra .words
     fewer-words = omega (arith, h .words, length-take-le (t .extra .words) l room)
@@ -223,11 +228,13 @@ module _ (t : Fit) (a : List Float) (l : List ℕ) (j : ℕ) (test : isHeld t a 
 
   -- ---- by what is built
 
-  built-back : (q : Replayed) (b : List Float) (m : List ℕ) → Stays (setupOf was) (logIn was) (t .extra .entries - j) (length l) a q b → Shortens q (t .extra .words) l m
+  built-back : (q : Replayed) (b : List Float) (m : List ℕ) → Stays (setupOf was) (logIn was) (t .extra .entries - j) (length l) a q b
+      → Shortens q (t .extra .words) l m
       → TakenBack j was (words (nextBy t q) b m) (keptBy q)
   built-back (R.Done f) b m h z = subst (λ (k : List ℕ). TakenBack j was (words f b k) H.Answer.done) (sym z) (taken-back f b (h .0) (h .1) (h .2))
   built-back (R.Refused i) b m h z = subst (λ (k : List ℕ). TakenBack j was (words t b k) (H.Answer.refused (plainRefusal i))) (sym z) (back-zeroed i b h)
 
   pub answered-back : (q : Replayed) (o : Answer) (b : List Float) (m : List ℕ) → ((t : Fit) → next t o ≡ nextBy t q) × (kept o ≡ keptBy q)
-      → Stays (setupOf was) (logIn was) (t .extra .entries - j) (length l) a q b × Shortens q (t .extra .words) l m → TakenBack j was (words (next t o) b m) (kept o)
+      → Stays (setupOf was) (logIn was) (t .extra .entries - j) (length l) a q b × Shortens q (t .extra .words) l m
+      → TakenBack j was (words (next t o) b m) (kept o)
   answered-back q o b m e h = rw (e .0 t, e .1) (built-back q b m (h .0) (h .1))

@@ -180,7 +180,9 @@ reply-exact {r} {w} {w'} {o} l = record {
           machine = m .is;
           setup = m .setup;
           replies = m .entries;
-          log = ap (take (w' .state .extra .words)) (m .log) ∙ to-entry (logIn w) (entryWords r) back (w .state .extra .words) (w' .state .extra .words) (front f) (m .words);
+          log =
+              ap (take (w' .state .extra .words)) (m .log)
+              ∙ to-entry (logIn w) (entryWords r) back (w .state .extra .words) (w' .state .extra .words) (front f) (m .words);
         }
 
     past : (b : Bool) → isRefused o ≡ b → Past w w'

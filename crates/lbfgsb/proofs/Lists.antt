@@ -40,7 +40,8 @@ unfolding Ieee.eq
 zero-unmarked Ieee.nan e = refl
 zero-unmarked (Ieee.inf s) e = refl
 zero-unmarked (Ieee.fin s m x) e =
-    let h = eqb-true (m * Ieee.up x * 1) (0 * Ieee.down x) (first-true (eqb (m * Ieee.up x * 1) (0 * Ieee.down x)) (Bool·beq s false || eqb (m * Ieee.up x * 1) 0) e) in
+    let h = eqb-true (m * Ieee.up x * 1) (0 * Ieee.down x)
+    (first-true (eqb (m * Ieee.up x * 1) (0 * Ieee.down x)) (Bool·beq s false || eqb (m * Ieee.up x * 1) 0) e) in
     let k = down-pos x in
     and-no-left (eqb (m * Ieee.up x * 1) (1 * Ieee.down x)) (Bool·beq s false || eqb (m * Ieee.up x * 1) 0) (ne-eqb (m * Ieee.up x * 1) (1 * Ieee.down x) (λ q. omega arith))
 

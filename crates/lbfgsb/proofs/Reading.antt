@@ -161,7 +161,8 @@ module _ (t : Fit) (a : List Float) (l : List ℕ) (out : List Float) where
       → o ≡ reportAnswer (words t a l) (length out)
   report-held b h u e =
       e
-      ∙ ap (λ (b : Bool). refusedBy (when b (refuse 15 0 0) then outputShort (length out) (t .shape .n)) (H.Answer.reported (M.reportNow (machineOf t a)))) (sym u)
+      ∙ ap (λ (b : Bool). refusedBy (when b (refuse 15 0 0) then outputShort (length out) (t .shape .n)) (H.Answer.reported (M.reportNow (machineOf t a))))
+      (sym u)
       ∙ sym (on (isHeld t a) (reportFrom (length out) (t .shape .n) (machineOf t a)) (H.Answer.refused (plainRefusal 15)) h)
 
   pub report-none : (c : Refusal) → isHeld t a ≡ true → M.unreported (phaseOf (t .phase)) ≡ true → refusalOf c ≡ plainRefusal 15 → Reported (H.Answer.refused (refusalOf c)) out
@@ -170,7 +171,8 @@ module _ (t : Fit) (a : List Float) (l : List ℕ) (out : List Float) where
   pub report-short : (c : Refusal) → isHeld t a ≡ true → M.unreported (phaseOf (t .phase)) ≡ false → length out < t .shape .n
       → refusalOf c ≡ record { number = 19; first = t .shape .n; second = 0 } → Reported (H.Answer.refused (refusalOf c)) out
   report-short c h u s e =
-      reported (report-held false h u (ap H.Answer.refused e ∙ sym (short (length out) (t .shape .n) (H.Answer.reported (M.reportNow (machineOf t a))) s))) (untouched out)
+      let told = short (length out) (t .shape .n) (H.Answer.reported (M.reportNow (machineOf t a))) s in
+      reported (report-held false h u (ap H.Answer.refused e ∙ sym told)) (untouched out)
 
   pub report-put : (r : Outcome) (out′ : List Float) → isHeld t a ≡ true → M.unreported (phaseOf (t .phase)) ≡ false → t .shape .n ≤ length out
       → ((v : Vecs) → reportOf r (v X) ≡ M.reportNow (machine t v)) → out′ ≡ written (machineOf t a .held .x) out
@@ -244,7 +246,8 @@ module _ (t : Fit) (a : List Float) (l : List ℕ) (k : ℕ) (out : List ℕ) wh
       → size ≡ length (frontEntry (t .shape .n) (drop at (take (t .extra .words) l))) → length (take size (drop at l)) ≡ size
   found-long at size r b e = length-take-le size (drop at l) (omega (arith, entry-room (t .shape .n) k l (t .extra .words) at size r b e, length-drop at l))
 
-  pub entry-short : (c : Refusal) (at size : ℕ) → isHeld t a ≡ true → t .extra .words ≤ length l → k < t .extra .entries → Begins (t .shape .n) k (take (t .extra .words) l) at
+  pub entry-short : (c : Refusal) (at size : ℕ) → isHeld t a ≡ true → t .extra .words ≤ length l → k < t .extra .entries
+      → Begins (t .shape .n) k (take (t .extra .words) l) at
       → size ≡ length (frontEntry (t .shape .n) (drop at (take (t .extra .words) l))) → length out < size
       → refusalOf c ≡ record { number = 19; first = size; second = 0 } → Entered (H.Answer.refused (refusalOf c)) out
   entry-short c at size h r s b e z d =
@@ -256,7 +259,8 @@ module _ (t : Fit) (a : List Float) (l : List ℕ) (k : ℕ) (out : List ℕ) wh
       ∙ short (length out) size (H.Answer.entered (take size (drop at l))) z)))
       (untouched out)
 
-  pub entry-put : (at size : ℕ) (out′ : List ℕ) → isHeld t a ≡ true → t .extra .words ≤ length l → k < t .extra .entries → Begins (t .shape .n) k (take (t .extra .words) l) at
+  pub entry-put : (at size : ℕ) (out′ : List ℕ) → isHeld t a ≡ true → t .extra .words ≤ length l → k < t .extra .entries
+      → Begins (t .shape .n) k (take (t .extra .words) l) at
       → size ≡ length (frontEntry (t .shape .n) (drop at (take (t .extra .words) l))) → size ≤ length out → out′ ≡ written (take size (drop at l)) out
       → Entered (H.Answer.entered (firstOf size out′)) out′
   entry-put at size out′ h r s b e z d =
@@ -284,7 +288,8 @@ module _ (t : Fit) (a : List Float) (l : List ℕ) (out : List ℕ) where
   pub save-unheld : isHeld t a ≡ false → Saved (H.Answer.saved []) out
   save-unheld h = saved-by (sym (off (isHeld t a) (saveFrom (shortLog (words t a l)) (length out) (length whole) whole) (H.Answer.saved []) h)) (untouched out)
 
-  save-held : {o : H.Answer} (b : Bool) → isHeld t a ≡ true → ltb (length l) (t .extra .words) ≡ b → o ≡ saveFrom (when b (refuse 12 0 0)) (length out) (length whole) whole
+  save-held : {o : H.Answer} (b : Bool) → isHeld t a ≡ true → ltb (length l) (t .extra .words) ≡ b
+      → o ≡ saveFrom (when b (refuse 12 0 0)) (length out) (length whole) whole
       → o ≡ saveAnswer (words t a l) (length out)
   save-held b h s e =
       e
@@ -307,7 +312,8 @@ module _ (t : Fit) (a : List Float) (l : List ℕ) (out : List ℕ) where
       (untouched out)
 
   pub save-put : (size : ℕ) (out′ : List ℕ) → isHeld t a ≡ true → t .extra .words ≤ length l → size ≡ setupSize (t .options .bounded) (t .shape .n)
-      → 8 * (size + t .extra .words + 4) ≤ length out → out′ ≡ written (recordIn (words t a l)) out → Saved (H.Answer.saved (firstOf (8 * (size + t .extra .words + 4)) out′)) out′
+      → 8 * (size + t .extra .words + 4) ≤ length out → out′ ≡ written (recordIn (words t a l)) out
+      → Saved (H.Answer.saved (firstOf (8 * (size + t .extra .words + 4)) out′)) out′
   save-put size out′ h r n s d =
       let needed = 8 * (size + t .extra .words + 4) in
       let long : length whole ≡ needed = record-long t a l h r ∙ ap (λ (k : ℕ). 8 * (k + t .extra .words + 4)) (sym n) in

@@ -56,7 +56,8 @@ report-said w room (History.fit b) h =
 pub replies-said : (w : Words) (h : History) → Holds w h → repliesAnswer w ≡ historyAnswer (lengths w) h Call.replies
 replies-said w History.empty h = off (isHeld (w .state) (w .area)) (H.Answer.counted (w .state .extra .entries)) (H.Answer.counted 0) h
 replies-said w (History.fit b) h =
-    on (isHeld (w .state) (w .area)) (H.Answer.counted (w .state .extra .entries)) (H.Answer.counted 0) (h .stands .test) ∙ ap H.Answer.counted (h .stands .entries)
+    on (isHeld (w .state) (w .area)) (H.Answer.counted (w .state .extra .entries)) (H.Answer.counted 0) (h .stands .test)
+    ∙ ap H.Answer.counted (h .stands .entries)
 
 -- the words ws of an entry, of a log of `size` words and an output of `room`
 abbrev pub entryFrom : Check → ℕ → List ℕ → H.Answer

@@ -164,7 +164,7 @@ Result (Call.save room) w w' = w' ≡ w
 -- the last words of the log's entries are zeroed; those past them are as they were
 pub record Struck (w w' : Words) : Type 0 where
   pub fewer : w' .state .extra .words ≤ w .state .extra .words
-  pub zeroed : take (w .state .extra .words - w' .state .extra .words) (drop (w' .state .extra .words) (w' .log)) ≡ replicate (w .state .extra .words - w' .state .extra .words) 0
+  pub zeroed : let k = w .state .extra .words - w' .state .extra .words in take k (drop (w' .state .extra .words) (w' .log)) ≡ replicate k 0
   pub past : drop (w .state .extra .words) (w' .log) ≡ drop (w .state .extra .words) (w .log)
 
 abbrev pub Past : Words → Words → Type 0

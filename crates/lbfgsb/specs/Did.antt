@@ -96,7 +96,8 @@ pub record Replied (r : M.Reply) (w w' : Words) (o : H.Answer) : Type 0 where
 -- the log's words from the last entry that stays to the old last one are zero, the others as they were
 pub record Shortened (w w' : Words) : Type 0 where
   pub words : w' .state .extra .words ≤ w .state .extra .words
-  pub log : w' .log ≡ take (w' .state .extra .words) (w .log) ++ replicate (w .state .extra .words - w' .state .extra .words) 0 ++ drop (w .state .extra .words) (w .log)
+  pub log : let old = w .state .extra .words in let new = w' .state .extra .words in
+      w' .log ≡ take new (w .log) ++ replicate (old - new) 0 ++ drop old (w .log)
 
 -- take back: the machine of the setup and the replies that stay
 pub record Taken (rs : List M.Reply) (w w' : Words) : Type 0 where

@@ -66,7 +66,8 @@ questionAnswer w room = byHeld w (questionOf w room (M.question (machineIn w))) 
 abbrev pub reportAnswer : Words → ℕ → Answer
 reportAnswer w room =
     byHeld w
-    (refusedBy (when (M.unreported (machineIn w .phase)) (refuse 15 0 0) then outputShort room (w .state .shape .n)) (Answer.reported (M.reportNow (machineIn w))))
+    (refusedBy (when (M.unreported (machineIn w .phase)) (refuse 15 0 0) then outputShort room (w .state .shape .n))
+    (Answer.reported (M.reportNow (machineIn w))))
     (Answer.refused (plainRefusal 15))
 
 abbrev pub repliesAnswer : Words → Answer

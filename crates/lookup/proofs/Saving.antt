@@ -91,12 +91,13 @@ module _ (t : Fit) (a : List Float) (l : List ℕ) where
       let log : length (take (t .extra .words - 0) l) ≡ t .extra .words = length-take-le (t .extra .words - 0) l (omega arith) ∙ omega arith in
       (parts, rw (long, log) f)
 
-  pub record-put : (out out′ : List ℕ)
-      → out′ ≡ overwritten (bytes (savedRecord (t .options) (lent (t .shape .n) a X0) (lent (t .shape .n) a Lower) (lent (t .shape .n) a Upper) (take (t .extra .words - 0) l))) out
+  pub record-put : (out out′ : List ℕ) → let n = t .shape .n in
+      out′ ≡ overwritten (bytes (savedRecord (t .options) (lent n a X0) (lent n a Lower) (lent n a Upper) (take (t .extra .words - 0) l))) out
       → out′ ≡ written (recordIn (words t a l)) out
   record-put out out′ e =
       let n = t .shape .n in
-      let log : take (t .extra .words - 0) l ≡ take (t .extra .words) l = let all : t .extra .words - 0 ≡ t .extra .words = omega arith in ap (λ (k : ℕ). take k l) all in
+      let all : t .extra .words - 0 ≡ t .extra .words = omega arith in
+      let log : take (t .extra .words - 0) l ≡ take (t .extra .words) l = ap (λ (k : ℕ). take k l) all in
       let is : bytes (savedRecord (t .options) (lent n a X0) (lent n a Lower) (lent n a Upper) (take (t .extra .words - 0) l)) ≡ recordIn (words t a l)
       = rw (part-lent a X0 n, part-lent a Lower n, part-lent a Upper n, log) in
       e ∙ ap (λ (bs : List ℕ). written bs out) is

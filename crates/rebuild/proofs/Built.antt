@@ -119,7 +119,8 @@ pub all-there : (r : Replayed) (f : Fit) (count : ℕ) → r ≡ R.Done f → co
 all-there r f count e l = rw (e, le-ltb (f .extra .entries) count l)
 
 pub markable-all : {t : Fit} {a : List Float} {ws : List ℕ} {limit room : ℕ} (r : Replayed) {b : List Float} → Replays t a ws limit room r b → Markable (allOf r limit) (length b)
-markable-all {limit = limit} (R.Done f) {b} h = by-test (λ (q : Replayed). Markable q (length b)) (ltb (f .extra .entries) limit) (λ e. tt) (λ e. h .kept .shape)
+markable-all {limit = limit} (R.Done f) {b} h =
+    by-test (λ (q : Replayed). Markable q (length b)) (ltb (f .extra .entries) limit) (λ e. tt) (λ e. h .kept .shape)
 markable-all (R.Refused c) h = tt
 
 module _ {o : Options} {n : ℕ} {s : Setup} {t : Fit} {was a : List Float} (k : Opened o n s was t a) where

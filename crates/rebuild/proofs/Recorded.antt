@@ -61,7 +61,8 @@ module _ (bs : List ℕ) (size : ℕ) (o : Options) (f : Frame) (h : Opens bs si
   record-opened {v} {a} {r} {b} e k =
       subst (λ (s : Setup). Opened o (f .n) s a r b) (ap (λ (x : List Float). setupFrom o x (f .n)) e ∙ opened-setup bs size o f h) k
 
-  pub record-ready : {a : List Float} {r : Fit} {b : List Float} → length a ≡ size → Opened o (f .n) (setupIn (wordsIn bs f)) a r b → isReady r (length b) ≡ true
+  pub record-ready : {a : List Float} {r : Fit} {b : List Float} → length a ≡ size → Opened o (f .n) (setupIn (wordsIn bs f)) a r b
+      → isReady r (length b) ≡ true
   record-ready z k = reached-ready (opened-reached (h .accepted) (subst (λ (i : ℕ). areaNeeded setup ≤ i) (sym (k .long ∙ z)) (h .room)) k)
 
   -- what `copy_entries` asks

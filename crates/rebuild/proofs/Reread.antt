@@ -77,13 +77,15 @@ refused-read s ws limit room c h r =
     after-stopped (r .number) (length ws + 1) room (firstEntries s ws) (Entries.refusedAt c) (omega (arith, r .most)) refl (r .is)
 
 -- all words replayed, the definition keeps the same replies
-pub replayed-all : {s : Setup} {ws : List ℕ} {room : ℕ} {f : Fit} {b : List Float} (r : ReplayedTo s ws room f b) → f .extra .words ≡ length ws → logWords (r .replies) ≡ ws
+pub replayed-all : {s : Setup} {ws : List ℕ} {room : ℕ} {f : Fit} {b : List Float} (r : ReplayedTo s ws room f b) → f .extra .words ≡ length ws
+    → logWords (r .replies) ≡ ws
 replayed-all {ws = ws} {f = f} r e =
     sym (append-nil (logWords (r .replies)))
     ∙ ap (λ (l : List ℕ). logWords (r .replies) ++ l) (sym (drop-length ws) ∙ ap (λ (k : ℕ). drop k ws) (sym e))
     ∙ r .spelled
 
-pub replayed-read : {s : Setup} {ws : List ℕ} {room : ℕ} {f : Fit} {b : List Float} (r : ReplayedTo s ws room f b) → f .extra .words ≡ length ws → f .extra .words ≤ room
+pub replayed-read : {s : Setup} {ws : List ℕ} {room : ℕ} {f : Fit} {b : List Float} (r : ReplayedTo s ws room f b) → f .extra .words ≡ length ws
+    → f .extra .words ≤ room
     → entriesOf s room ws ≡ Entries.kept (r .replies)
 replayed-read {s} {ws} {room} r e h =
     ap (entriesOf s room) (sym (replayed-all r e)) ∙ log-back s room (r .replies) (r .due) (omega (arith, r .words))

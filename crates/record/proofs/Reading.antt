@@ -161,7 +161,8 @@ module _ (bs : List ℕ) (f : Frame) (h : Placed bs f) where
 
   pub form-whole : malformed (wordsIn bs f) ≡ false → f .setup ≤ f .words
   form-whole e =
-      let l = ltb-false (length (wordsIn bs f)) (setupLength (getD (wordsIn bs f) 0 0)) (both-false (ltb (length (wordsIn bs f)) (setupLength (getD (wordsIn bs f) 0 0))) _ e .0) in
+      let l = ltb-false (length (wordsIn bs f)) (setupLength (getD (wordsIn bs f) 0 0))
+      (both-false (ltb (length (wordsIn bs f)) (setupLength (getD (wordsIn bs f) 0 0))) _ e .0) in
       omega (arith, l, words-count, h .setup)
 
 -- ---- the definition's reading, check by check

@@ -281,7 +281,8 @@ reached-run h (Run.taken f b g d r l size k) = reached-more (reached-run h r) l 
 
 -- ---- the end
 
-pub reached-done : {t f : Fit} {a b : List Float} {ws : List ℕ} {limit room : ℕ} → Reached t a ws limit room f b → (f .extra .words ≡ length ws) ⊎ (f .extra .entries ≡ limit)
+pub reached-done : {t f : Fit} {a b : List Float} {ws : List ℕ} {limit room : ℕ} → Reached t a ws limit room f b
+    → (f .extra .words ≡ length ws) ⊎ (f .extra .entries ≡ limit)
     → Replays t a ws limit room (Done f) b
 reached-done h stopped = record {
   size = h .size;

@@ -39,9 +39,11 @@ value-reads n ws at e r l v h k reads = subst (λ (z : Reply). Reads n ws at z l
 pub turn-stays : {F : M.Place → M.Machine → M.Machine} {q : Probing} {t : Fit} {a b : List Float} (r : Turned) → r ≡ Stays → TurnIs F q t a r b → b ≡ a
 turn-stays {F} {q} {t} {a} {b} r e h = subst (λ (z : Turned). TurnIs F q t a z b) e h .is
 
-module _ (t : Fit) (q : Probing) (a : List Float) (ws : List ℕ) (limit room l v : ℕ) (here : q .extra .words < length ws) (h : Reads (t .shape .n) ws (q .extra .words) (R.Value v) l) where
+module _ (t : Fit) (q : Probing) (a : List Float) (ws : List ℕ) (limit room l v : ℕ) (here : q .extra .words < length ws)
+    (h : Reads (t .shape .n) ws (q .extra .words) (R.Value v) l) where
   taken-on : (x : Float) (p : Probing) (b : List Float) → Sound (t .shape) (length a) → shapeHeld (t .shape) (length a) ≡ true → q .i < t .shape .n
-      → q .extra .entries < limit → q .extra .words + l ≤ room → x ≡ toFloat v → length b ≡ length a → TurnIs (λ w. D.onProbe w (q .i) (sideOf (q .side)) x) q t a (On p) b
+      → q .extra .entries < limit → q .extra .words + l ≤ room → x ≡ toFloat v → length b ≡ length a
+      → TurnIs (λ w. D.onProbe w (q .i) (sideOf (q .side)) x) q t a (On p) b
       → TakenIs t q a ws limit room (On (logged (q .extra .entries + 1) (q .extra .words + l) p)) b
   taken-on x p b all held within few fits e size k = record {
     is = (
@@ -57,7 +59,8 @@ module _ (t : Fit) (q : Probing) (a : List Float) (ws : List ℕ) (limit room l 
 
   pub entry-taken : (x : Float) (r : Turned) (p : Probing) (b : List Float) → r ≡ On p → Sound (t .shape) (length a) → shapeHeld (t .shape) (length a) ≡ true
       → q .i < t .shape .n → q .extra .entries < limit → q .extra .words + l ≤ room → x ≡ toFloat v → length b ≡ length a
-      → TurnIs (λ w. D.onProbe w (q .i) (sideOf (q .side)) x) q t a r b → TakenIs t q a ws limit room (On (logged (q .extra .entries + 1) (q .extra .words + l) p)) b
+      → TurnIs (λ w. D.onProbe w (q .i) (sideOf (q .side)) x) q t a r b
+      → TakenIs t q a ws limit room (On (logged (q .extra .entries + 1) (q .extra .words + l) p)) b
   entry-taken x r p b is all held within few fits e size k =
       taken-on x p b all held within few fits e size (subst (λ (z : Turned). TurnIs (λ w. D.onProbe w (q .i) (sideOf (q .side)) x) q t a z b) is k)
 

@@ -113,7 +113,8 @@ NextIs t a ws room (Refused c) b = RefusedBy t a ws room c
 -- f with the area b is t with the area a taken through some entries, none past the limit
 pub data Run (ws : List ℕ) (limit room : ℕ) (t : Fit) (a : List Float) : Fit → List Float → Type 0 where
   begun : Run ws limit room t a t a
-  taken : (f : Fit) (b : List Float) (g : Fit) (d : List Float) → Run ws limit room t a f b → f .extra .entries < limit → length d ≡ length b → Took f b ws room g d
+  taken : (f : Fit) (b : List Float) (g : Fit) (d : List Float) → Run ws limit room t a f b → f .extra .entries < limit → length d ≡ length b
+      → Took f b ws room g d
       → Run ws limit room t a g d
 
 -- another number of entries kept, and of their words, at a probe

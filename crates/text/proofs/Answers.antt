@@ -75,7 +75,8 @@ fit-go (Reading.accepted b) f a l t x h e = (held-n h, answered-told t (f .shape
 fit-go (Reading.refused k) f a l t x h e = absurd h
 fit-go (Reading.refusedAtEntry k) f a l t x h e = absurd h
 
-pub fit-printed : (bs : List ℕ) (r : Answer) (f : Fit) (a : List Float) (l : List ℕ) (t : Told) (x x' : List Float) → Taken (readInput bs) r a l → r ≡ A.Kept f → length x ≡ inputCoordinates
+pub fit-printed : (bs : List ℕ) (r : Answer) (f : Fit) (a : List Float) (l : List ℕ) (t : Told) (x x' : List Float) → Taken (readInput bs) r a l
+    → r ≡ A.Kept f → length x ≡ inputCoordinates
     → ((m : List ℕ) → Read (Call.report (length x)) (words f a m) (told t (f .shape .n) x') x x')
     → (f .shape .n ≤ inputCoordinates) × (printedAs t (f .shape .n) x' ≡ printed bs)
 fit-printed bs r f a l t x x' h e k d =

@@ -53,7 +53,8 @@ counted-requires c κs =
     let s = c .before .before .before .before .before .before .before .before .before .before .before .before .before .before .before .before .before in
     let f = ready-facts (s .args .t) (length (s .args .area .now)) (s .pre .0) in
     let k = c .before .before .before .before .before .before .before .before .before .advance .ensures .kept in
-    (rw (k .extra) (f .entries), rw (k .extra) (f .words), rw (c .entry-length .ensures, c .before .kind-of .ensures) (entry-few (s .args .t .shape .n) (s .args .r) (f .ready .n)))
+    let few = entry-few (s .args .t .shape .n) (s .args .r) (f .ready .n) in
+    (rw (k .extra) (f .entries), rw (k .extra) (f .words), rw (c .entry-length .ensures, c .before .kind-of .ensures) few)
 
 same-length : tie.Need-same-length
 same-length c = c .before .before .before .before .before .mark .ensures .size ∙ advance-length (c .before .before .before .before .before .before .before .before .before .before)

@@ -18,7 +18,8 @@ mark-requires c κs =
     let b = c .before .before .before .before in
     let s = b .before .before .before .before .before .before in
     let a = s .args in
-    let h = start-reached (setupIn (a .o) (a .x0 .now) (a .lower .now) (a .upper .now)) _ _ 0 (a .area .now) (b .begin .last .1 .0) (b .begin .result) (s .pre) (b .begin .ensures) in
+    let h = start-reached (setupIn (a .o) (a .x0 .now) (a .lower .now) (a .upper .now)) _ _ 0 (a .area .now) (b .begin .last .1 .0)
+    (b .begin .result) (s .pre) (b .begin .ensures) in
     ready-facts (b .begin .result) (length (b .begin .last .1 .0)) (reached-ready h) .shape
 
 returns : tie.Need-returns
@@ -27,7 +28,8 @@ returns c =
     let b = c .before .before .before .before .before .before .before in
     let s = b .before .before .before .before .before .before in
     let a = s .args in
-    let h = start-reached (setupIn (a .o) (a .x0 .now) (a .lower .now) (a .upper .now)) _ _ 0 (a .area .now) (b .begin .last .1 .0) (b .begin .result) (s .pre) (b .begin .ensures) in
+    let h = start-reached (setupIn (a .o) (a .x0 .now) (a .lower .now) (a .upper .now)) _ _ 0 (a .area .now) (b .begin .last .1 .0)
+    (b .begin .result) (s .pre) (b .begin .ensures) in
     start-held l h (c .before .before .mark .ensures)
 
 pub opened-spec : {M : Type 1} → statement M

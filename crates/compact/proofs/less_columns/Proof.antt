@@ -39,7 +39,8 @@ loop-again c =
     let k = c .before .before .before in
     let l = k .before .before .before in
     let s = l .before .before .before .before .before .before .before in
-    (lessened-more (l .loop .inv .0) (s .pre .2) (omega arith) _ (k .column-slot .ensures) (c .before .before .less .ensures), c .before .area2 .given ∙ l .loop .inv .1)
+    let next = lessened-more (l .loop .inv .0) (s .pre .2) (omega arith) _ (k .column-slot .ensures) (c .before .before .less .ensures) in
+    (next, c .before .area2 .given ∙ l .loop .inv .1)
 
 returns : tie.Need-returns Inv-loop μ-loop
 returns c = lessened-done _ (c .before .before .before .before .before .before .before .before .pre .1) (c .before .before .before .before .before .before .before .before .pre .2) (c .before .before .before .before .scale .ensures) (c .before .loop .inv .0) (omega arith)

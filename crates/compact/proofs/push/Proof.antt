@@ -43,7 +43,8 @@ returns c =
     let p = c .before .before .before in
     let q = p .before .before .before .before in
     let r = q .before .before in
-    pair-pushed _ _ _ _ _ (r .before .before .pre) (r .place-slot .ensures) (p .copy2 .ensures ∙ ap (copyOf _ Displacement) (q .copy .ensures)) (c .pushed .ensures)
+    pair-pushed _ _ _ _ _ (r .before .before .pre) (r .place-slot .ensures) (p .copy2 .ensures ∙ ap (copyOf _ Displacement) (q .copy .ensures))
+    (c .pushed .ensures)
 
 pub push-spec : {M : Type 1} → statement M
 push-spec =

@@ -19,7 +19,8 @@ places-passed c = eq-eqb _ _ (sym (c .before .before .places .ensures) ∙ c .if
 counts-passed : (c : tie.Else3) → (let s = c .before .before .before .before .before .before .before .before .before .before in countsHeld (s .args .t .counters) ≡ true)
 counts-passed c = sym (c .before .counts-held .ensures) ∙ not-false _ (c .if3 .left)
 
-log-passed : (c : tie.Else4) → (let s = c .before .before .before .before .before .before .before .before .before .before .before .before in logHeld (s .args .t .extra .entries) (s .args .t .extra .words) ≡ true)
+log-passed : (c : tie.Else4)
+    → (let s = c .before .before .before .before .before .before .before .before .before .before .before .before in logHeld (s .args .t .extra .entries) (s .args .t .extra .words) ≡ true)
 log-passed c = sym (c .before .log-held .ensures) ∙ not-false _ (c .if4 .left)
 
 returns : tie.Need-returns

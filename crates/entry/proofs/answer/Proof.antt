@@ -12,7 +12,8 @@ returns : tie.Need-returns
 returns c l b h =
     let t = c .before .before .before .before in
     let k = t .before .before .question in
-    let none = asked-nothing (runOf b) _ _ (k .result) (t .match .keys2) (k .ensures l .said (History.fit b) h ∙ question-answered _ b (h .accepted) (omega arith)) in
+    let none = asked-nothing (runOf b) _ _ (k .result) (t .match .keys2)
+    (k .ensures l .said (History.fit b) h ∙ question-answered _ b (h .accepted) (omega arith)) in
     fit-ended (runOf b) _ _ _ _ none (c .before .before .ended .ensures l b h none)
 
 returns-2 : tie.Need-returns-2

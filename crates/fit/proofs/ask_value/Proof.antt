@@ -22,7 +22,11 @@ returns-2 : tie.Need-returns-2
 returns-2 c =
     let h = c .before .before in
     rw (c .with-phase .ensures)
-    (record { shape = refl; kept = record { options = refl; extra = refl; settled = λ s. s }; is = λ v. charge-asks _ _ _ (sym (ap chargeOf (h .charge .given .1)) ∙ h .before .before .value-charged .ensures) })
+    (record {
+      shape = refl;
+      kept = record { options = refl; extra = refl; settled = λ s. s };
+      is = λ v. charge-asks _ _ _ (sym (ap chargeOf (h .charge .given .1)) ∙ h .before .before .value-charged .ensures);
+    })
 
 pub ask-value-spec : {M : Type 1} → statement M
 ask-value-spec =

@@ -28,14 +28,23 @@ copy-entries-requires c κs =
     let s = c .before .before .before .before .before .before .before .before .before .before .before .before .before .before in
     let a = s .args in
     let r = c .before .before .before .before .before .before .before .before .replay-record in
-    let h = subst (λ (q : Replayed). Builds (setupIn (wordsIn (a .input .now) (a .f))) (entriesIn (a .input .now) (a .f)) (a .f .words - a .f .setup) (length (a .log .now)) (a .area .now) q (r .last .0)) (c .before .before .before .before .built .given .1) (r .ensures) in
+    let entries = entriesIn (a .input .now) (a .f) in
+    let room = length (a .log .now) in
+    let h = subst
+    (λ (q : Replayed). Builds (setupIn (wordsIn (a .input .now) (a .f))) entries (a .f .words - a .f .setup) room (a .area .now) q (r .last .0))
+    (c .before .before .before .before .built .given .1) (r .ensures) in
     copies-within (a .input .now) (length (a .area .now)) (a .o) (a .f) (s .pre) h
 
 returns-2 : tie.Need-returns-2
 returns-2 c =
     let a = c .before .before .before .before .before .before .before .before .before .before .before .before .before .before .before .before .before .args in
     let r = c .before .before .before .before .before .before .before .before .before .before .before .replay-record in
-    (subst (λ (q : Replayed). Builds (setupIn (wordsIn (a .input .now) (a .f))) (entriesIn (a .input .now) (a .f)) (a .f .words - a .f .setup) (length (a .log .now)) (a .area .now) q (r .last .0)) (c .before .before .before .before .before .before .before .built .given .1) (r .ensures), c .before .before .copy-entries .ensures)
+    let entries = entriesIn (a .input .now) (a .f) in
+    let room = length (a .log .now) in
+    let h = subst
+    (λ (q : Replayed). Builds (setupIn (wordsIn (a .input .now) (a .f))) entries (a .f .words - a .f .setup) room (a .area .now) q (r .last .0))
+    (c .before .before .before .before .before .before .before .built .given .1) (r .ensures) in
+    (h, c .before .before .copy-entries .ensures)
 
 pub reload-spec : {M : Type 1} → statement M
 reload-spec =

@@ -33,7 +33,8 @@ replay-requires c κs =
     let s = c .before .before .before .before .before .before .before .before .before .before .before .before .before in
     let r = c .before .before .before .before .before .before .begin-from in
     let a = s .args in
-    let k = record-opened (a .input .now) (length (a .area .now)) (a .o) (a .f) (s .pre) (c .before .before .before .before .before .before .before .before .before .vectors .ensures) (r .ensures) in (
+    let k = record-opened (a .input .now) (length (a .area .now)) (a .o) (a .f) (s .pre)
+    (c .before .before .before .before .before .before .before .before .before .vectors .ensures) (r .ensures) in (
       record { logged = λ e. absurd (false≢true (sym e)); recorded = λ e. entries-within (a .input .now) (length (a .area .now)) (a .o) (a .f) (s .pre) },
       record-ready (a .input .now) (length (a .area .now)) (a .o) (a .f) (s .pre) refl k,
       k .entries,
@@ -45,13 +46,15 @@ settle-requires c κs = let r = c .before .before .before .replay in markable (r
 
 returns : tie.Need-returns
 returns c =
-    let s = c .before .before .before .before .before .before .before .before .before .before .before .before .before .before .before .before .before .before .before .before in
-    let r = c .before .before .before .before .before .before .before .before .before .before .before .before .before .begin-from in
-    let p = c .before .before .before .before .before .before .replay in
-    let q = c .before .before .settle in
+    let q = c .before .before in
+    let p = q .before .before .before .before in
+    let r = p .before .before .before .before .before .before .before in
+    let v = r .before .before .before in
+    let s = v .before .before .before .before in
     let a = s .args in
-    let k = record-opened (a .input .now) (length (a .area .now)) (a .o) (a .f) (s .pre) (c .before .before .before .before .before .before .before .before .before .before .before .before .before .before .before .before .vectors .ensures) (r .ensures) in
-    builds k (p .result) (p .last .1 .0) (q .last .0) (p .ensures) (q .ensures)
+    let k = record-opened (a .input .now) (length (a .area .now)) (a .o) (a .f) (s .pre)
+    (v .vectors .ensures) (r .begin-from .ensures) in
+    builds k (p .replay .result) (p .replay .last .1 .0) (q .settle .last .0) (p .replay .ensures) (q .settle .ensures)
 
 pub replay-record-spec : {M : Type 1} → statement M
 replay-record-spec =

@@ -53,4 +53,6 @@ returns-5 c =
     (omega (arith, c .before .before .if2 .left, c .if3 .left))
 
 pub admitted-spec : {M : Type 1} → statement M
-admitted-spec = tie.close (tie.spec (λ c κs. search needs) returns (λ c κs. search needs) (λ c. search needs) (λ c. search needs) returns-2 returns-3 returns-4 returns-5)
+admitted-spec =
+    tie.close
+    (tie.spec (λ c κs. search needs) returns (λ c κs. search needs) (λ c. search needs) (λ c. search needs) returns-2 returns-3 returns-4 returns-5)

@@ -14,10 +14,15 @@ returns-6 : tie.Need-returns-6
 returns-6 c = record { is = turn-stays _ (c .enum-told2 .given .1) (c .before .before .before .before .next-probe .ensures) }
 
 add-extra : tie.Need-add-extra
-add-extra c = omega (arith, c .before .before .before .before .before .before .before .before .before .before .before .before .before .before .if1 .left, c .before .before .before .before .before .before .before .before .before .before .before .before .before .before .before .before .before .before .before .before .before .before .before .before .before .before .fits .limit)
+add-extra c =
+    let i = c .before .before .before .before .before .before .before .before .before .before .before .before .before .before in
+    omega (arith, i .if1 .left, i .before .before .before .before .before .before .before .before .before .before .before .before .fits .limit)
 
 add-extra-2 : tie.Need-add-extra-2
-add-extra-2 c = omega (arith, c .before .before .before .before .before .before .before .before .before .before .before .before .before .if2 .left, c .before .before .before .before .before .before .before .before .before .before .before .if3 .left, c .before .before .before .before .before .before .before .before .before .before .before .before .before .before .before .before .before .before .before .before .before .before .before .before .before .before .before .fits .room)
+add-extra-2 c =
+    let i = c .before .before .before .before .before .before .before .before .before .before .before in
+    let j = i .before .before in
+    omega (arith, j .if2 .left, i .if3 .left, j .before .before .before .before .before .before .before .before .before .before .before .before .before .before .fits .room)
 
 returns-7 : tie.Need-returns-7
 returns-7 c =
@@ -27,9 +32,14 @@ returns-7 c =
     let a = s .args in
     let ws = sourceWords (a .s) (now (a .log)) (now (a .input)) in
     let here : a .q .extra .words < length ws = omega (arith, source-count (a .s) (now (a .log)) (now (a .input)) (s .pre .0), s .pre .1) in
-    let reads = value-reads (a .t .shape .n) ws (a .q .extra .words) _ _ _ _ (e .entry .given .1) (i .before .before .before .before .before .before .before .r .given .1) (e .before .before .entry-at .ensures) in
-    entry-taken (a .t) (a .q) (now (a .area)) ws (a .limit) (a .room) _ _ here reads _ _ _ _ (c .before .before .before .before .next .given .1) (s .pre .3) (s .pre .4) (s .pre .5)
-    (i .before .before .before .before .if1 .left) (omega (arith, i .before .before .if2 .left, i .if3 .left)) (c .before .before .before .before .before .before .before .before .before .before .word-to-float .ensures) (c .before .before .before .before .before .before .before .area .given) (c .before .before .before .before .before .before .before .before .next-probe .ensures)
+    let reads = value-reads (a .t .shape .n) ws (a .q .extra .words) _ _ _ _ (e .entry .given .1)
+    (i .before .before .before .before .before .before .before .r .given .1) (e .before .before .entry-at .ensures) in
+    entry-taken (a .t) (a .q) (now (a .area)) ws (a .limit) (a .room) _ _ here reads _ _ _ _ (c .before .before .before .before .next .given .1)
+    (s .pre .3) (s .pre .4) (s .pre .5)
+    (i .before .before .before .before .if1 .left) (omega (arith, i .before .before .if2 .left, i .if3 .left))
+    (c .before .before .before .before .before .before .before .before .before .before .word-to-float .ensures)
+    (c .before .before .before .before .before .before .before .area .given)
+    (c .before .before .before .before .before .before .before .before .next-probe .ensures)
 
 pub probe-entry-spec : {M : Type 1} → statement M
 probe-entry-spec =

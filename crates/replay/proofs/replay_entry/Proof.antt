@@ -20,7 +20,8 @@ returns c =
     let a = at .args in
     let ws = sourceWords (a .s) (now (a .log)) (now (a .input)) in
     let here : a .t .extra .words < length ws = omega (arith, source-count (a .s) (now (a .log)) (now (a .input)) (at .pre .0), at .pre .1) in
-    bad-refused (a .t) (now (a .area)) ws (a .room) here (subst (EntryIs (a .t .shape .n) ws (a .t .extra .words)) (c .enum-told .given .1) (c .before .before .entry-at .ensures))
+    bad-refused (a .t) (now (a .area)) ws (a .room) here
+    (subst (EntryIs (a .t .shape .n) ws (a .t .extra .words)) (c .enum-told .given .1) (c .before .before .entry-at .ensures))
 
 returns-2 : tie.Need-returns-2
 returns-2 c =
@@ -28,7 +29,8 @@ returns-2 c =
     let a = at .args in
     let ws = sourceWords (a .s) (now (a .log)) (now (a .input)) in
     let here : a .t .extra .words < length ws = omega (arith, source-count (a .s) (now (a .log)) (now (a .input)) (at .pre .0), at .pre .1) in
-    let reads = subst (EntryIs (a .t .shape .n) ws (a .t .extra .words)) (c .before .before .before .entry .given .1) (c .before .before .before .before .before .entry-at .ensures) in
+    let reads = subst (EntryIs (a .t .shape .n) ws (a .t .extra .words)) (c .before .before .before .entry .given .1)
+    (c .before .before .before .before .before .entry-at .ensures) in
     refused-is (a .t) (now (a .area)) ws (a .room) here _ _ reads _ (c .before .admitted .ensures) (c .if1 .taken)
 
 take-entry-requires : tie.Need-take-entry-requires
@@ -37,7 +39,8 @@ take-entry-requires c κs =
     let a = at .args in
     let ws = sourceWords (a .s) (now (a .log)) (now (a .input)) in
     let here : a .t .extra .words < length ws = omega (arith, source-count (a .s) (now (a .log)) (now (a .input)) (at .pre .0), at .pre .1) in
-    let reads = subst (EntryIs (a .t .shape .n) ws (a .t .extra .words)) (c .before .before .before .before .entry .given .1) (c .before .before .before .before .before .before .entry-at .ensures) in
+    let reads = subst (EntryIs (a .t .shape .n) ws (a .t .extra .words)) (c .before .before .before .before .entry .given .1)
+    (c .before .before .before .before .before .before .entry-at .ensures) in
     let k = admitted-is (a .t) (now (a .area)) ws (a .room) here _ _ reads _ (c .before .before .admitted .ensures) (c .before .if1 .left) in
     (at .pre .0, k .ready, k .due, omega (arith, reads .size, reads .within, source-count (a .s) (now (a .log)) (now (a .input)) (at .pre .0)))
 
@@ -47,7 +50,9 @@ counted-requires c κs =
     let a = at .args in
     let ws = sourceWords (a .s) (now (a .log)) (now (a .input)) in
     let here : a .t .extra .words < length ws = omega (arith, source-count (a .s) (now (a .log)) (now (a .input)) (at .pre .0), at .pre .1) in
-    let reads = subst (EntryIs (a .t .shape .n) ws (a .t .extra .words)) (c .before .before .before .before .before .before .before .entry .given .1) (c .before .before .before .before .before .before .before .before .before .entry-at .ensures) in
+    let reads = subst (EntryIs (a .t .shape .n) ws (a .t .extra .words))
+    (c .before .before .before .before .before .before .before .entry .given .1)
+    (c .before .before .before .before .before .before .before .before .before .entry-at .ensures) in
     let k = admitted-is (a .t) (now (a .area)) ws (a .room) here _ _ reads _ (c .before .before .before .before .before .admitted .ensures) (c .before .before .before .before .if1 .left) in
     let h = ready-facts (a .t) (length (now (a .area))) (k .ready) in
     let kept = c .before .before .take-entry .ensures .kept in
@@ -59,7 +64,9 @@ returns-3 c =
     let a = at .args in
     let ws = sourceWords (a .s) (now (a .log)) (now (a .input)) in
     let here : a .t .extra .words < length ws = omega (arith, source-count (a .s) (now (a .log)) (now (a .input)) (at .pre .0), at .pre .1) in
-    let reads = subst (EntryIs (a .t .shape .n) ws (a .t .extra .words)) (c .before .before .before .before .before .before .before .before .entry .given .1) (c .before .before .before .before .before .before .before .before .before .before .entry-at .ensures) in
+    let reads = subst (EntryIs (a .t .shape .n) ws (a .t .extra .words))
+    (c .before .before .before .before .before .before .before .before .entry .given .1)
+    (c .before .before .before .before .before .before .before .before .before .before .entry-at .ensures) in
     let k = admitted-is (a .t) (now (a .area)) ws (a .room) here _ _ reads _ (c .before .before .before .before .before .before .admitted .ensures) (c .before .before .before .before .before .if1 .left) in
     took (a .t) (now (a .area)) ws (a .room) here _ _ reads k (c .before .before .area .given) (c .before .before .before .take-entry .ensures) (c .counted .ensures)
 

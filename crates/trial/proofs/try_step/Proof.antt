@@ -16,7 +16,9 @@ put-trial-requires c κs = first-room (c .before .before .pre .0)
 returns : tie.Need-returns
 unfolding tryStep
 returns c =
-    stepped (c .ask-value .ensures) refl (record { options = refl; extra = refl; settled = λ s. c .before .before .before .before .before .before .pre .1 }) (c .before .before .before .put-trial .ensures) (saved-upd Trial _ (omega arith) (λ e. omega arith) saved-refl)
+    let p = c .before .before .before in
+    stepped (c .ask-value .ensures) refl (record { options = refl; extra = refl; settled = λ s. p .before .before .before .pre .1 })
+    (p .put-trial .ensures) (saved-upd Trial _ (omega arith) (λ e. omega arith) saved-refl)
     (let l : Trial < firstPair = omega arith in rw pairs-kept)
 
 pub try-step-spec : {M : Type 1} → statement M
