@@ -10,7 +10,8 @@ ghost use Rattle.definition.specs.Compact.{curved as curvedOf, usable as usable
 ghost use Rattle.definition.specs.Compact.{wrap, padded, zeroRow, block as blockOf, rightSide, weights as weightsOf};
 ghost use Rattle.area.specs.Area.{view, upd, rowwise, firstPair};
 ghost use Rattle.solve.specs.Answers.{answerOf};
-ghost use Rattle.compact.specs.State.{pairsOf, compactOf, pairSlot, columnSlot, blockTo, Sound, Slot, pushedShape, Pushed, Laid, PairsKept, Prepared, Multiplied, lessTo};
+ghost use Rattle.compact.specs.State.{pairSlot, columnSlot, Sound, Slot, pairsOf, compactOf, pushedShape, Pushed};
+ghost use Rattle.compact.specs.State.{blockTo, Laid, PairsKept, Prepared, Multiplied, lessTo};
 
 // What the places of the pairs rest on: n coordinates, m places, how many are used, and which is the oldest.
 pub struct Shape {

@@ -20,7 +20,7 @@ counts-passed : (c : tie.Else3) → (let s = c .before .before .before .before .
 counts-passed c = sym (c .before .counts-held .ensures) ∙ not-false _ (c .if3 .left)
 
 log-passed : (c : tie.Else4)
-    → (let s = c .before .before .before .before .before .before .before .before .before .before .before .before in logHeld (s .args .t .extra .entries) (s .args .t .extra .words) ≡ true)
+    → (let x = c .before .before .before .before .before .before .before .before .before .before .before .before .args .t .extra in logHeld (x .entries) (x .words) ≡ true)
 log-passed c = sym (c .before .log-held .ensures) ∙ not-false _ (c .if4 .left)
 
 returns : tie.Need-returns

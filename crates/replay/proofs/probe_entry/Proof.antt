@@ -22,7 +22,8 @@ add-extra-2 : tie.Need-add-extra-2
 add-extra-2 c =
     let i = c .before .before .before .before .before .before .before .before .before .before .before in
     let j = i .before .before in
-    omega (arith, j .if2 .left, i .if3 .left, j .before .before .before .before .before .before .before .before .before .before .before .before .before .before .fits .room)
+    let s = j .before .before .before .before .before .before .before .before .before .before .before .before .before .before in
+    omega (arith, j .if2 .left, i .if3 .left, s .fits .room)
 
 returns-7 : tie.Need-returns-7
 returns-7 c =
