@@ -15,9 +15,9 @@ use Rattle.definition.specs.Vector.{word, zeros, dot, difference}
 use Rattle.definition.specs.Compact.{noPairs, count}
 use Rattle.definition.specs.Counters.{Termination, valueLeft}
 use Rattle.definition.specs.Gradient.{Probes, probesAt, bothQuotient, rightQuotient, leftQuotient}
-use Rattle.definition.specs.Search.{Search, beginSearch, accepts, afterTrial}
+use Rattle.definition.specs.Search.{Search, Verdict, beginSearch, accepts, afterTrial, orFailed}
 use Rattle.definition.specs.Machine.{Reply, Place, Side, Phase, Machine, inPhase, holding, withCompact, heading, withRight, ending, takes, suits, kindOf}
-use Rattle.definition.specs.Driver.{Ends, chosenEnd, endsOf, gradientSmall, askValue, tryStep, trySearch, searchAlong, towards, byModel, withoutPairs, orWithoutPairs, descend, iterate, learn, move, judgeTrial, measured, complete, withGradient, withComponent, byProbes, probeFrom, probedTo, probed, valued, answer}
+use Rattle.definition.specs.Driver.{Ends, chosenEnd, endsOf, gradientSmall, askValue, tryStep, byVerdict, searchAlong, towards, byModel, withoutPairs, orWithoutPairs, descend, iterate, learn, move, judgeTrial, measured, complete, withGradient, withComponent, byProbes, probeFrom, probedTo, probed, valued, answer}
 use Rattle.definition.specs.Facts.{gradientFinite}
 use Rattle.definition.specs.Points.{asks}
 use Rattle.definition.proofs.Tests.{by-test}
@@ -71,7 +71,7 @@ module _ {G : Place → Machine → Type 0} {S A Q : Machine → Type 0} (k : Le
 
   search-leads :
       (m : Machine) (o : Option Search) → Q (ending Termination.lineSearchFailed m) → ((r : Search) → o ≡ some r → A (aiming r m))
-      → Q (trySearch m o)
+      → Q (byVerdict m (orFailed o))
   unfolding tryStep askValue
   search-leads m none h next = h
   search-leads m (some r) h next =
@@ -112,7 +112,7 @@ module _ {G : Place → Machine → Type 0} {S A Q : Machine → Type 0} (k : Le
       by-test Q (gradientSmall m') (λ _. k .seekingEnds Termination.gtol m' h') (λ _. descend-leads m' h')
   measured-leads Place.trial m h e =
       let next = afterTrial (m .search) (m .held .f) (m .trial .f) (trialSlope m) in
-      by-test Q (accepts (m .search) (m .held .f) (m .trial .f) (trialSlope m)) (k .moved m h e)
+      by-test (λ (x : Verdict). Q (byVerdict m x)) (accepts (m .search) (m .held .f) (m .trial .f) (trialSlope m)) (k .moved m h e)
       (λ _. search-leads m next (k .gatheringEnds Place.trial Termination.lineSearchFailed m h) (λ r. k .again m r h))
 
   complete-leads : (w : Place) (m : Machine) → G w m → Q (complete w m)

@@ -12,9 +12,9 @@ use Rattle.definition.specs.Vector.{word, zeros, dot, difference}
 use Rattle.definition.specs.Compact.{noPairs, count}
 use Rattle.definition.specs.Counters.{Termination, valueLeft, iterationsSpent, chargeValue, chargeGradient}
 use Rattle.definition.specs.Gradient.{Probes, probesAt, bothQuotient, rightQuotient, leftQuotient}
-use Rattle.definition.specs.Search.{Search, beginSearch, trialPoint, accepts, afterTrial}
+use Rattle.definition.specs.Search.{Search, Verdict, beginSearch, trialPoint, accepts, afterTrial, orFailed}
 use Rattle.definition.specs.Machine.{Reply, Place, Side, Phase, Machine, state, inPhase, counting, holding, trying, withCompact, heading, searching, withRight, ending, kindOf, suits, takes}
-use Rattle.definition.specs.Driver.{Ends, chosenEnd, endsOf, gradientSmall, decreaseSmall, askValue, tryStep, trySearch, searchAlong, towards, byModel, withoutPairs, orWithoutPairs, descend, iterate, learn, move, judgeTrial, measured, complete, withGradient, withComponent, byProbes, probeFrom, probedTo, probed, valued, onValue, onGradient, onNotSupplied, onProbe, onGoOn, answerIn, answer}
+use Rattle.definition.specs.Driver.{Ends, chosenEnd, endsOf, gradientSmall, decreaseSmall, askValue, tryStep, byVerdict, searchAlong, towards, byModel, withoutPairs, orWithoutPairs, descend, iterate, learn, move, judgeTrial, measured, complete, withGradient, withComponent, byProbes, probeFrom, probedTo, probed, valued, onValue, onGradient, onNotSupplied, onProbe, onGoOn, answerIn, answer}
 use Rattle.definition.specs.Facts.{unprobed, unprobedFrom, lastProbe, lastAsked, completesIn, completesGradient, gradientFinite}
 use Rattle.definition.proofs.Tests.{by-test}
 
@@ -170,7 +170,7 @@ module _ {S Q : Machine → Type 0} (k : Descends S Q) where
   unfolding askValue
   trial-leads m h = by-test Q (valueLeft (m .limits) (m .counters)) (k .asked m h) (k .spent m h)
 
-  search-leads : (m : Machine) (o : Option Search) → S m → ((r : Search) → o ≡ some r → S (aiming r m)) → Q (trySearch m o)
+  search-leads : (m : Machine) (o : Option Search) → S m → ((r : Search) → o ≡ some r → S (aiming r m)) → Q (byVerdict m (orFailed o))
   unfolding tryStep
   search-leads m none h next = k .failed m h
   search-leads m (some r) h next = trial-leads (aiming r m) (next r refl)
@@ -219,7 +219,7 @@ module _ {G : Place → Machine → Type 0} {S : Machine → Type 0} {Q : Bool �
   judge-leads : (m : Machine) → G Place.trial m → gradientFinite m ≡ true → Q true (judgeTrial (gathered m))
   unfolding judgeTrial
   judge-leads m h e =
-      by-test (Q true) (accepts (m .search) (m .held .f) (m .trial .f) (trialSlope m)) (k .moved m h e)
+      by-test (λ (x : Verdict). Q true (byVerdict (gathered m) x)) (accepts (m .search) (m .held .f) (m .trial .f) (trialSlope m)) (k .moved m h e)
       (λ _. search-leads (k .descends) (gathered m) (afterTrial (m .search) (m .held .f) (m .trial .f) (trialSlope m)) (k .tried m h e) (λ r. k .again m r h e))
 
   measured-leads : (w : Place) (m : Machine) → G w m → gradientFinite m ≡ true → Q true (measured w (gathered m))

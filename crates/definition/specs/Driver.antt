@@ -16,7 +16,7 @@ use Rattle.definition.specs.Compact.{Compact, noPairs, count, update}
 use Rattle.definition.specs.Geometry.{generalizedCauchy, primalMinimize}
 use Rattle.definition.specs.Counters.{Termination, firstCounters, valueLeft, iterationsSpent, chargeValue, chargeGradient, chargeIteration}
 use Rattle.definition.specs.Gradient.{Probes, probesAt, bothQuotient, rightQuotient, leftQuotient}
-use Rattle.definition.specs.Search.{Search, beginSearch, trialPoint, accepts, afterTrial}
+use Rattle.definition.specs.Search.{Search, Verdict, beginSearch, trialPoint, orFailed, judge}
 use Rattle.definition.specs.Machine.{Reply, replyKind, broughtWords, firstWord, isValue, isFailure, State, Place, Side, Phase, Machine, state, made, inPhase, counting, holding, trying, withCompact, heading, searching, withRight, ending}
 
 -- a value question, unless the budget is spent
@@ -54,13 +54,33 @@ tryStep r m =
     askValue (Phase.value Place.trial)
     (searching r (trying (state (trialPoint (m .terms .n) (m .terms .bounds) (m .held .x) (m .direction) (r .alpha)) (m .trial .f) (m .trial .g)) m))
 
--- the search hands back a step to try, or the run ends
-abbrev pub trySearch : Machine → Option Search → Machine
-trySearch m none = ending Termination.lineSearchFailed m
-trySearch m (some r) = tryStep r m
+-- ---- what the search hands back
+
+-- the pair that the step gives is kept, if it is fit
+unfoldable pub learn : Machine → Machine
+learn m =
+    withCompact
+    (update (m .terms .n) (m .terms .maxcor) (m .compact)
+    (difference (m .terms .n) (m .trial .x) (m .held .x))
+    (difference (m .terms .n) (m .trial .g) (m .held .g)))
+    m
+
+-- the driver moves to the trial and gives notice
+unfoldable pub move : Machine → Machine
+move m =
+    made (m .terms) (m .limits) (m .trial) (m .compact) (m .trial) (m .direction) (m .search) (m .rightValue) (m .held .f)
+    (chargeIteration (m .counters)) Phase.notice
+
+-- the driver moves to the step that is accepted, or tries another; else the run ends
+abbrev pub byVerdict : Machine → Verdict → Machine
+byVerdict m Verdict.accepted = move (learn m)
+byVerdict m (Verdict.another r) = tryStep r m
+byVerdict m Verdict.failed = ending Termination.lineSearchFailed m
+
+-- ---- the direction, and the first trial along it
 
 unfoldable pub searchAlong : Machine → Machine
-searchAlong m = trySearch m (beginSearch (m .terms .n) (m .terms .bounds) (m .held .x) (m .held .g) (m .direction))
+searchAlong m = byVerdict m (orFailed (beginSearch (m .terms .n) (m .terms .bounds) (m .held .x) (m .held .g) (m .direction)))
 
 -- the ends that the model offers: the Cauchy point, and the minimum over its free coordinates
 pub record Ends : Type 0 where
@@ -101,26 +121,9 @@ iterate m = cond (gradientSmall m) (ending Termination.gtol m) (descend m)
 
 -- ---- when the gradient at a place is complete
 
--- the pair that the step gives is kept, if it is fit
-unfoldable pub learn : Machine → Machine
-learn m =
-    withCompact
-    (update (m .terms .n) (m .terms .maxcor) (m .compact)
-    (difference (m .terms .n) (m .trial .x) (m .held .x))
-    (difference (m .terms .n) (m .trial .g) (m .held .g)))
-    m
-
--- the driver moves to the trial and gives notice
-unfoldable pub move : Machine → Machine
-move m =
-    made (m .terms) (m .limits) (m .trial) (m .compact) (m .trial) (m .direction) (m .search) (m .rightValue) (m .held .f)
-    (chargeIteration (m .counters)) Phase.notice
-
 unfoldable pub judgeTrial : Machine → Machine
 judgeTrial m =
-    let slope = dot (m .terms .n) (m .trial .g) (m .direction) in
-    cond (accepts (m .search) (m .held .f) (m .trial .f) slope) (move (learn m))
-    (trySearch m (afterTrial (m .search) (m .held .f) (m .trial .f) slope))
+    byVerdict m (judge (m .search) (m .held .f) (m .trial .f) (dot (m .terms .n) (m .trial .g) (m .direction)))
 
 abbrev pub measured : Place → Machine → Machine
 measured Place.start m = iterate (holding (m .trial) m)

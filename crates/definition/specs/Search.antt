@@ -102,3 +102,16 @@ afterTrial s f v slope =
     let low = lowAfter s f v slope in
     let high = highAfter s f v slope in
     nextTrial s low high (following s low high)
+
+-- what the search hands back after a trial: the step is accepted, another trial, or it has failed
+pub data Verdict : Type 0 where
+  accepted : Verdict
+  another : Search → Verdict
+  failed : Verdict
+
+abbrev pub orFailed : Option Search → Verdict
+orFailed (some s) = Verdict.another s
+orFailed none = Verdict.failed
+
+abbrev pub judge : Search → Float → Float → Float → Verdict
+judge s f v slope = cond (accepts s f v slope) Verdict.accepted (orFailed (afterTrial s f v slope))

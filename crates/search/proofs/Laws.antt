@@ -9,11 +9,10 @@ use lib.Ieee.{Float, eq}
 use Rattle.definition.specs.Number.{zero64}
 use Rattle.definition.specs.Search as S
 use Rattle.definition.specs.Search.{goesOn}
-use Rattle.search.specs.State.{Settled, NextSettled}
+use Rattle.search.specs.State.{Settled, VerdictSettled}
 use Rattle.search.specs.declared.Search.{Search}
-use Rattle.search.specs.declared.Trials.{Trials}
-use Rattle.search.specs.declared.Next.{Next}
-use Rattle.search.specs.declared.Next.the-variants.{Step}
+use Rattle.search.specs.declared.Verdict.{Verdict}
+use Rattle.search.specs.declared.Verdict.the-variants.{Another}
 
 pub below-is-not-from : (a b : ℕ) → ltb b a ≡ not (leb a b)
 below-is-not-from a b = go (leb a b) refl
@@ -31,5 +30,5 @@ trials-below s next h = go (eq next (s .alpha)) (eq next zero64) h
     go false false h = leb-false 60 (s .trials) (not-true _ h)
 
 -- an absent high end stands as 0 in a step that is handed back
-pub settled-step : {r : Next} {s : Search} {t : Trials} → NextSettled r → r ≡ Step s t → Settled s t
+pub settled-step : {r : Verdict} {s : Search} → VerdictSettled r → r ≡ Another s → Settled s
 settled-step h e = rw e at h

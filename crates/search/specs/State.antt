@@ -6,39 +6,40 @@ use lib.Ieee.{Float}
 use Rattle.definition.specs.Number.{zero64}
 use Rattle.definition.specs.Search as S
 use Rattle.search.specs.declared.Search.{Search}
-use Rattle.search.specs.declared.Trials.{Trials}
+use Rattle.search.specs.declared.Limit.{Limit}
 use Rattle.search.specs.declared.High.{High}
 use Rattle.search.specs.declared.High.the-variants as H
-use Rattle.search.specs.declared.Next.{Next}
-use Rattle.search.specs.declared.Next.the-variants.{Step, Nothing}
-use Rattle.search.specs.declared.Limit.{Limit}
+use Rattle.search.specs.declared.Verdict.{Verdict}
+use Rattle.search.specs.declared.Verdict.the-variants.{Accepted, Another, Failed}
 
 abbrev pub highOf : High → Option Float
 highOf H.Open = none
 highOf (H.At x) = some x
 
-abbrev pub searchOf : Search → Trials → S.Search
-searchOf s t = record {
-  alpha = s .alpha;
-  low = s .low;
-  high = cond (t .bracketed) (some (s .high)) none;
-  slope0 = s .slope0;
-  amax = s .amax;
-  face = t .face;
-  trials = t .count;
+abbrev pub searchOf : Search → S.Search
+searchOf s = record {
+  alpha = s .step .alpha;
+  low = s .step .low;
+  high = cond (s .trials .bracketed) (some (s .step .high)) none;
+  slope0 = s .step .slope0;
+  amax = s .step .amax;
+  face = s .trials .face;
+  trials = s .trials .count;
 }
 
 -- an absent high end stands as 0
-abbrev pub Settled : Search → Trials → Type 0
-Settled s t = t .bracketed ≡ false → s .high ≡ zero64
+abbrev pub Settled : Search → Type 0
+Settled s = s .trials .bracketed ≡ false → s .step .high ≡ zero64
 
 abbrev pub limitOf : Limit → S.Limit
 limitOf l = record { amax = l .amax; face = l .face }
 
-abbrev pub nextOf : Next → Option S.Search
-nextOf (Step s t) = some (searchOf s t)
-nextOf Nothing = none
+abbrev pub verdictOf : Verdict → S.Verdict
+verdictOf Accepted = S.Verdict.accepted
+verdictOf (Another s) = S.Verdict.another (searchOf s)
+verdictOf Failed = S.Verdict.failed
 
-abbrev pub NextSettled : Next → Type 0
-NextSettled (Step s t) = Settled s t
-NextSettled Nothing = Unit {0}
+abbrev pub VerdictSettled : Verdict → Type 0
+VerdictSettled Accepted = Unit {0}
+VerdictSettled (Another s) = Settled s
+VerdictSettled Failed = Unit {0}

@@ -1,10 +1,15 @@
-// The step search along a direction: one record of floats from question to question, its trial count beside it.
+// The step search along a direction: one record from question to question, and what it hands back after a trial.
+ghost use mathlib.Core.Bool.{not, cond, _&&_, _||_};
+ghost use mathlib.Core.Option.{some};
 ghost use mathlib.Core.Path.{_≡_};
-ghost use Rattle.definition.specs.Search.{decreases as decreasesOf, flat as flatOf, onFace, accepts as acceptsOf, narrows as narrowsOf, lowAfter, highAfter, following as followingOf, goesOn, nextTrial, afterTrial, limited as limitedOf, withLimit};
-ghost use Rattle.search.specs.State.{searchOf, highOf, limitOf, nextOf, NextSettled};
+ghost use lib.Ieee as Ieee;
+ghost use Rattle.definition.specs.Number.{zero64};
+ghost use Rattle.definition.specs.Search.{limited as limitedOf, withLimit, decreases as decreasesOf, flat as flatOf, onFace};
+ghost use Rattle.definition.specs.Search.{following as followingOf, goesOn, nextTrial, orFailed, judge as judgeOf};
+ghost use Rattle.search.specs.State.{searchOf, highOf, limitOf, verdictOf, VerdictSettled};
 
 // The step, the two ends, the slope at the point held and the limit of the step.
-pub struct Search {
+pub struct Step {
     pub alpha: f64,
     pub low: f64,
     pub high: f64,
@@ -19,8 +24,21 @@ pub struct Trials {
     pub bracketed: bool,
 }
 
+// The search: its record of floats, and the trials beside it.
+pub struct Search {
+    pub step: Step,
+    pub trials: Trials,
+}
+
+// What the search hands back: the step is accepted, another trial, or it has failed.
+pub enum Verdict {
+    Accepted,
+    Another(Search),
+    Failed,
+}
+
 // The high end, where there is one.
-pub enum High {
+enum High {
     Open,
     At(f64),
 }
@@ -31,184 +49,202 @@ pub struct Limit {
     pub face: bool,
 }
 
-// A step to try, or none.
-pub enum Next {
-    Step(Search, Trials),
-    Nothing,
-}
+// The most trials of a search.
+const SEARCH_TRIALS: usize = 60;
 
 // ---- the start
 
-// The limit, after a coordinate that meets its bound at the step t: an equal step is taken too.
-pub fn limited(t: f64, l: Limit) -> Limit
-    ensures { λ r. ⌜ limitOf r ≡ limitedOf t (limitOf l) ⌝ }
+// The limit, after a coordinate that meets its bound at a step: an equal step is taken too.
+pub fn limited(distance: f64, limit: Limit) -> Limit
+    ensures { λ r. ⌜ limitOf r ≡ limitedOf distance (limitOf limit) ⌝ }
 {
-    if !float::is_finite(t) {
-        return l;
+    if !float::is_finite(distance) {
+        return limit;
     }
-    if t <= l.amax {
+    if distance <= limit.amax {
         return Limit {
-            amax: t,
+            amax: distance,
             face: true,
         };
     }
-    l
+    limit
 }
 
 // The first trial within the limit, unless there is nothing to search.
-pub fn with_limit(slope0: f64, l: Limit) -> Next
-    ensures { λ r. ⌜ (nextOf r ≡ withLimit slope0 (limitOf l)) × NextSettled r ⌝ }
+pub fn with_limit(slope0: f64, limit: Limit) -> Verdict
+    ensures { λ r. ⌜ (verdictOf r ≡ orFailed (withLimit slope0 (limitOf limit))) × VerdictSettled r ⌝ }
 {
-    if !float::is_finite(l.amax) {
-        return Next::Nothing;
+    if !float::is_finite(limit.amax) {
+        return Verdict::Failed;
     }
-    if 0.0 < l.amax {
-        let search = Search {
-            alpha: float::min(1.0, l.amax),
+    if 0.0 < limit.amax {
+        let step = Step {
+            alpha: float::min(1.0, limit.amax),
             low: 0.0,
             high: 0.0,
             slope0: slope0,
-            amax: l.amax,
+            amax: limit.amax,
         };
         let trials = Trials {
             count: 1,
-            face: l.face,
+            face: limit.face,
             bracketed: false,
         };
-        return Next::Step(search, trials);
+        return Verdict::Another(Search {
+            step: step,
+            trials: trials,
+        });
     }
-    Next::Nothing
+    Verdict::Failed
 }
 
-// ---- after a trial: f the value held, v and slope those at the trial
+// ---- after a trial: the value held, and value and slope at the trial
 
 // The decrease test: equality passes.
-pub fn decreases(s: Search, t: Trials, f: f64, v: f64) -> bool
-    ensures { λ r. ⌜ r ≡ decreasesOf (searchOf s t) f v ⌝ }
+fn decreases(search: Search, held: f64, value: f64) -> bool
+    ensures { λ r. ⌜ r ≡ decreasesOf (searchOf search) held value ⌝ }
 {
-    v <= f + ((float::C1 * s.alpha) * s.slope0)
+    value <= held + ((float::C1 * search.step.alpha) * search.step.slope0)
 }
 
 // The slope test: equality passes.
-pub fn flat(s: Search, t: Trials, slope: f64) -> bool
-    ensures { λ r. ⌜ r ≡ flatOf (searchOf s t) slope ⌝ }
+fn flat(search: Search, slope: f64) -> bool
+    ensures { λ r. ⌜ r ≡ flatOf (searchOf search) slope ⌝ }
 {
-    float::abs(slope) <= float::C2 * float::abs(s.slope0)
+    float::abs(slope) <= float::C2 * float::abs(search.step.slope0)
 }
 
 // The limiting face is reached, with a lower value.
-pub fn on_face(s: Search, t: Trials, f: f64, v: f64) -> bool
-    ensures { λ r. ⌜ r ≡ onFace (searchOf s t) f v ⌝ }
+fn on_face(search: Search, held: f64, value: f64) -> bool
+    ensures { λ r. ⌜ r ≡ onFace (searchOf search) held value ⌝ }
 {
-    if !t.face {
+    if !search.trials.face {
         return false;
     }
-    if s.alpha == s.amax {
-        return v < f;
+    if search.step.alpha == search.step.amax {
+        return value < held;
     }
     false
 }
 
-// Whether the search hands the trial back.
-pub fn accepts(s: Search, t: Trials, f: f64, v: f64, slope: f64) -> bool
-    ensures { λ r. ⌜ r ≡ acceptsOf (searchOf s t) f v slope ⌝ }
+// Whether the step is accepted, by the decrease test.
+fn accepts(search: Search, decrease: bool, held: f64, value: f64, slope: f64) -> bool
+    ensures { λ r. ⌜ r ≡ (decrease && (flatOf (searchOf search) slope || onFace (searchOf search) held value)) ⌝ }
 {
-    if !decreases(s, t, f, v) {
+    if !decrease {
         return false;
     }
-    if flat(s, t, slope) {
+    if flat(search, slope) {
         return true;
     }
-    on_face(s, t, f, v)
+    on_face(search, held, value)
 }
 
-// Whether the trial becomes the high end.
-pub fn narrows(s: Search, t: Trials, f: f64, v: f64, slope: f64) -> bool
-    ensures { λ r. ⌜ r ≡ narrowsOf (searchOf s t) f v slope ⌝ }
+// Whether the trial becomes the high end, by the decrease test.
+fn narrows(decrease: bool, slope: f64) -> bool
+    ensures { λ r. ⌜ r ≡ (not decrease || Ieee.le zero64 slope) ⌝ }
 {
-    if !decreases(s, t, f, v) {
+    if !decrease {
         return true;
     }
     0.0 <= slope
 }
 
 // The ends after a trial that is not accepted: it becomes the high end or the low one.
-pub fn low_after(s: Search, t: Trials, f: f64, v: f64, slope: f64) -> f64
-    ensures { λ r. ⌜ r ≡ lowAfter (searchOf s t) f v slope ⌝ }
+fn low_after(search: Search, narrow: bool) -> f64
+    ensures { λ r. ⌜ r ≡ cond narrow (searchOf search .low) (searchOf search .alpha) ⌝ }
 {
-    if narrows(s, t, f, v, slope) {
-        s.low
+    if narrow {
+        search.step.low
     } else {
-        s.alpha
+        search.step.alpha
     }
 }
 
-pub fn high_after(s: Search, t: Trials, f: f64, v: f64, slope: f64) -> High
-    ensures { λ r. ⌜ highOf r ≡ highAfter (searchOf s t) f v slope ⌝ }
+fn high_after(search: Search, narrow: bool) -> High
+    ensures { λ r. ⌜ highOf r ≡ cond narrow (some (searchOf search .alpha)) (searchOf search .high) ⌝ }
 {
-    if narrows(s, t, f, v, slope) {
-        return High::At(s.alpha);
+    if narrow {
+        return High::At(search.step.alpha);
     }
-    if t.bracketed {
-        return High::At(s.high);
+    if search.trials.bracketed {
+        return High::At(search.step.high);
     }
     High::Open
 }
 
 // The step after this one: between the ends, or twice as far up to the limit.
-pub fn following(s: Search, t: Trials, low: f64, high: High) -> f64
-    ensures { λ r. ⌜ r ≡ followingOf (searchOf s t) low (highOf high) ⌝ }
+fn following(search: Search, low: f64, high: High) -> f64
+    ensures { λ r. ⌜ r ≡ followingOf (searchOf search) low (highOf high) ⌝ }
 {
-    let High::At(x) = high else {
-        return float::min(s.alpha * 2.0, s.amax);
+    let High::At(end) = high else {
+        return float::min(search.step.alpha * 2.0, search.step.amax);
     };
-    (low + x) * 0.5
+    (low + end) * 0.5
 }
 
-// Another trial is made unless the step would stay, be 0, or be the 61st.
-pub fn goes_on(s: Search, t: Trials, next: f64) -> bool
-    ensures { λ r. ⌜ r ≡ goesOn (searchOf s t) next ⌝ }
+// Another trial is made unless the step would stay, be 0, or be one too many.
+fn goes_on(search: Search, next: f64) -> bool
+    ensures { λ r. ⌜ r ≡ goesOn (searchOf search) next ⌝ }
 {
-    if next == s.alpha {
+    if next == search.step.alpha {
         return false;
     }
     if next == 0.0 {
         return false;
     }
-    t.count < 60
+    search.trials.count < SEARCH_TRIALS
 }
 
 // The trial at the step `next`, between the ends low and high.
-pub fn next_trial(s: Search, t: Trials, low: f64, high: High, next: f64) -> Next
-    ensures { λ r. ⌜ (nextOf r ≡ nextTrial (searchOf s t) low (highOf high) next) × NextSettled r ⌝ }
+fn next_trial(search: Search, low: f64, high: High, next: f64) -> Verdict
+    ensures { λ r. ⌜ (verdictOf r ≡ orFailed (nextTrial (searchOf search) low (highOf high) next)) × VerdictSettled r ⌝ }
 {
-    if !goes_on(s, t, next) {
-        return Next::Nothing;
+    if !goes_on(search, next) {
+        return Verdict::Failed;
     }
-    let mut search = s;
-    search.alpha = next;
-    search.low = low;
-    let mut trials = t;
-    trials.count = t.count + 1;
+    let mut step = search.step;
+    step.alpha = next;
+    step.low = low;
+    let mut trials = search.trials;
+    trials.count = search.trials.count + 1;
     match high {
         High::Open => {
-            search.high = 0.0;
+            step.high = 0.0;
             trials.bracketed = false;
-            Next::Step(search, trials)
+            Verdict::Another(Search {
+                step: step,
+                trials: trials,
+            })
         }
-        High::At(x) => {
-            search.high = x;
+        High::At(end) => {
+            step.high = end;
             trials.bracketed = true;
-            Next::Step(search, trials)
+            Verdict::Another(Search {
+                step: step,
+                trials: trials,
+            })
         }
     }
 }
 
-// The next trial, or none: the search has failed.
-pub fn after_trial(s: Search, t: Trials, f: f64, v: f64, slope: f64) -> Next
-    ensures { λ r. ⌜ (nextOf r ≡ afterTrial (searchOf s t) f v slope) × NextSettled r ⌝ }
+// The trial after one that is not accepted.
+fn after_trial(search: Search, narrow: bool) -> Verdict
+    ensures { λ r. ⌜ (let s = searchOf search in let low = cond narrow (s .low) (s .alpha) in let high = cond narrow (some (s .alpha)) (s .high) in
+        (verdictOf r ≡ orFailed (nextTrial s low high (followingOf s low high))) × VerdictSettled r) ⌝ }
 {
-    let low = low_after(s, t, f, v, slope);
-    let high = high_after(s, t, f, v, slope);
-    next_trial(s, t, low, high, following(s, t, low, high))
+    let low = low_after(search, narrow);
+    let high = high_after(search, narrow);
+    next_trial(search, low, high, following(search, low, high))
+}
+
+// What the search hands back after a trial. The decrease test is made once.
+pub fn judge(search: Search, held: f64, value: f64, slope: f64) -> Verdict
+    ensures { λ r. ⌜ (verdictOf r ≡ judgeOf (searchOf search) held value slope) × VerdictSettled r ⌝ }
+{
+    let decrease = decreases(search, held, value);
+    if accepts(search, decrease, held, value, slope) {
+        return Verdict::Accepted;
+    }
+    after_trial(search, narrows(decrease, slope))
 }

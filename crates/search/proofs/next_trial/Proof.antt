@@ -15,17 +15,19 @@ returns c = (simp (sym (c .before .goes-on .ensures) ∙ not-true _ (c .if1 .tak
 
 add-trials : tie.Need-add-trials
 add-trials c =
-    let a = c .before .before .before .args in
-    omega (arith, trials-below (searchOf (a .s) (a .t)) (a .next) (sym (c .before .before .goes-on .ensures) ∙ not-false _ (c .before .if1 .left)))
+    let b = c .before .before .before in
+    let a = b .before .before .args in
+    omega (arith, trials-below (searchOf (a .search)) (a .next) (sym (b .before .goes-on .ensures) ∙ not-false _ (b .if1 .left)))
 
 returns-2 : tie.Need-returns-2
-returns-2 c = (simp (sym (c .before .before .before .before .goes-on .ensures) ∙ not-false _ (c .before .before .before .if1 .left), c .enum-told .given .1), λ e. zero-is)
+returns-2 c =
+    let b = c .before .before .before .before .before in
+    (simp (sym (b .before .goes-on .ensures) ∙ not-false _ (b .if1 .left), c .enum-told .given .1), λ e. zero-is)
 
 returns-3 : tie.Need-returns-3
-returns-3 c = (
-  simp (sym (c .before .before .before .before .before .goes-on .ensures) ∙ not-false _ (c .before .before .before .before .if1 .left), c .before .high .given .1),
-  λ e. absurd (true≢false e),
-)
+returns-3 c =
+    let b = c .before .before .before .before .before .before in
+    (simp (sym (b .before .goes-on .ensures) ∙ not-false _ (b .if1 .left), c .before .high .given .1), λ e. absurd (true≢false e))
 
 pub next-trial-spec : {M : Type 1} → statement M
 next-trial-spec = tie.close (tie.spec (λ c κs. search needs) returns add-trials (λ c. search needs) (λ c. search needs) returns-2 returns-3)
