@@ -49,7 +49,7 @@ pub record Advances (r : M.Reply) (t : Fit) (a : List Float) (f : Fit) (b : List
   pub n : f .shape .n ≡ t .shape .n
   pub m : f .shape .m ≡ t .shape .m
   pub sound : Sound (f .shape) (length a)
-  pub settled : Settled (t .search) (t .trials) → Settled (f .search) (f .trials)
+  pub settled : Settled (t .search) → Settled (f .search)
   pub setup : setupAt (f .options) (view b (f .shape .n)) ≡ setupAt (t .options) (view a (t .shape .n))
   pub saved : Saved (view a (t .shape .n)) (view b (t .shape .n))
   pub mark : marked (f .shape) b ≡ true

@@ -30,14 +30,14 @@ pub const DIRECTION: usize = 7;
 
 // Vector 8. The path's direction is written by `cauchy::begin_path` and `cauchy::stop`, and read last by the segment that ends the
 // path. The step is written behind that, by `subspace::steps`; `subspace::moved` reads word i of it last and puts word i of the
-// target in its place, which `subspace::head` reads. (`measure::learn` puts the difference of the points here, for `compact::update`.)
+// target in its place, which `subspace::head` reads. (`judge::learn` puts the difference of the points here, for `compact::update`.)
 pub const VELOCITY: usize = 8;
 
 pub const STEP: usize = 8;
 
 pub const TARGET: usize = 8;
 
-// Vector 9. The path's displacement, and behind the path that of the Cauchy point. (`measure::learn`: the difference of the gradients.)
+// Vector 9. The path's displacement, and behind the path that of the Cauchy point. (`judge::learn`: the difference of the gradients.)
 pub const DISPLACEMENT: usize = 9;
 
 // Vector 10. The bounds met are written by `cauchy::begin_path` and `cauchy::stop`; `cauchy::put_point`, with which the path ends,

@@ -33,7 +33,7 @@ use Rattle.fit.specs.declared.Fit.{Fit}
 use Rattle.fit.specs.declared.Phase.{Phase}
 use Rattle.fit.specs.declared.Phase.the-variants.{Value, Gradient, Probe, Notice, Ended}
 use Rattle.compact.specs.declared.Shape.{Shape}
-use Rattle.measure.specs.Ready.{Ready}
+use Rattle.judge.specs.Ready.{Ready}
 use Rattle.question.specs.Reports.{Within}
 use Rattle.driver.specs.Replies.{markAt, shapeHeld, phaseHeld, marked, isReady, isHeld, mostWords, Marks}
 

@@ -6,7 +6,7 @@ ghost use lib.ListN.{length};
 ghost use Rattle.area.specs.Area.{Vecs};
 ghost use Rattle.problem.specs.Setups.{checkOf};
 ghost use Rattle.fit.specs.State.{machine, Turns, Steps};
-ghost use Rattle.measure.specs.Ready.{Ready};
+ghost use Rattle.judge.specs.Ready.{Ready};
 ghost use Rattle.question.specs.Reports.{Within};
 ghost use mathlib.Core.Bool.{true, cond};
 ghost use Rattle.definition.specs.Problem.{mostCoordinates, mostPairs};
@@ -178,7 +178,14 @@ fn on_value_word(t: Fit, area: &mut [f64], v: u64) -> Fit
     let p = t.phase;
     match p {
         Phase::Value(w) => fit::on_value(t, w, float::word_to_float(v)),
-        Phase::Probe(w, i, side) => replies::on_probe(t, w, i, side, float::word_to_float(v), area),
+        Phase::Probe(w, i, side) => differences::on_probe(
+            t,
+            w,
+            i,
+            side,
+            float::word_to_float(v),
+            area,
+        ),
         Phase::Gradient(_) => t,
         Phase::Notice => t,
         Phase::Ended(_) => t,
@@ -195,9 +202,9 @@ fn on_gradient(t: Fit, area: &mut [f64], supplied: bool) -> Fit
         return t;
     };
     if supplied {
-        measure::complete(t, w, area)
+        judge::complete(t, w, area)
     } else {
-        replies::on_not_supplied(t, w, area)
+        differences::on_not_supplied(t, w, area)
     }
 }
 
@@ -213,7 +220,7 @@ fn on_notice(t: Fit, area: &mut [f64], stop: bool) -> Fit
     if stop {
         fit::ended(t, Termination::Cancelled)
     } else {
-        replies::on_go_on(t, area)
+        differences::on_go_on(t, area)
     }
 }
 

@@ -185,11 +185,10 @@ withRing h theta t = record {
   counters = t .counters;
   phase = t .phase;
   search = t .search;
-  trials = t .trials;
   value = t .value;
-  trial = t .trial;
-  right = t .right;
-  before = t .before;
+  «trial_value» = t .«trial_value»;
+  «right_value» = t .«right_value»;
+  «value_before» = t .«value_before»;
   theta = theta;
   extra = t .extra;
 }

@@ -50,11 +50,11 @@ machineWith ps t v = record {
   limits = limitsOf (t .limits);
   held = record { x = v X; f = t .value; g = v G };
   compact = record { pairs = ps; theta = t .theta; oldest = t .shape .oldest };
-  trial = record { x = v Trial; f = t .trial; g = v TrialGradient };
+  trial = record { x = v Trial; f = t .«trial_value»; g = v TrialGradient };
   direction = v Direction;
-  search = searchOf (t .search) (t .trials);
-  rightValue = t .right;
-  before = t .before;
+  search = searchOf (t .search);
+  rightValue = t .«right_value»;
+  before = t .«value_before»;
   counters = countersOf (t .counters);
   phase = phaseOf (t .phase);
 }
@@ -69,7 +69,7 @@ machineOf t a = machine t (view a (t .shape .n))
 pub record Kept (t r : Fit) : Type 0 where
   pub options : r .options ≡ t .options
   pub extra : r .extra ≡ t .extra
-  pub settled : Settled (t .search) (t .trials) → Settled (r .search) (r .trials)
+  pub settled : Settled (t .search) → Settled (r .search)
 
 -- r is t taken through F, whatever the area holds
 pub record Turns (F : M.Machine → M.Machine) (t r : Fit) : Type 0 where
@@ -94,11 +94,31 @@ withPhase p t = record {
   counters = t .counters;
   phase = p;
   search = t .search;
-  trials = t .trials;
   value = t .value;
-  trial = t .trial;
-  right = t .right;
-  before = t .before;
+  «trial_value» = t .«trial_value»;
+  «right_value» = t .«right_value»;
+  «value_before» = t .«value_before»;
   theta = t .theta;
   extra = t .extra;
+}
+
+-- the log's numbers are not near where a sum would wrap
+abbrev pub mostWords : ℕ
+mostWords = 0x0100_0000_0000_0000
+
+-- another number of entries kept, and of their words
+abbrev pub withLog : ℕ → ℕ → Fit → Fit
+withLog entries words t = record {
+  shape = t .shape;
+  options = t .options;
+  limits = t .limits;
+  counters = t .counters;
+  phase = t .phase;
+  search = t .search;
+  value = t .value;
+  «trial_value» = t .«trial_value»;
+  «right_value» = t .«right_value»;
+  «value_before» = t .«value_before»;
+  theta = t .theta;
+  extra = record { entries = entries; words = words };
 }

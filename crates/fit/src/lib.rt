@@ -1,9 +1,10 @@
 // The state of a fit, by value, and the steps that touch no vector.
 ghost use mathlib.Core.Path.{_≡_};
-ghost use Rattle.definition.specs.Machine.{ending};
-ghost use Rattle.definition.specs.Driver.{askValue, valued as valuedOf, onValue};
+ghost use Prim.Native.Nat.{_+_, _<_};
+ghost use Rattle.definition.specs.Machine.{kindOf, ending};
+ghost use Rattle.definition.specs.Driver.{askValue, valued as valuedOf};
 ghost use Rattle.counters.specs.Counts.{terminationOf};
-ghost use Rattle.fit.specs.State.{withPhase, phaseOf, placeOf, Turns};
+ghost use Rattle.fit.specs.State.{withPhase, withLog, mostWords, phaseOf, placeOf, Turns};
 use compact::Shape;
 use counters::Charge;
 use counters::Counters;
@@ -11,7 +12,6 @@ use counters::Termination;
 use problem::Limits;
 use problem::Options;
 use search::Search;
-use search::Trials;
 
 // Where a value and a gradient are asked: at the start, or at a trial of the search.
 pub enum Place {
@@ -39,6 +39,9 @@ pub struct Extra {
     pub words: usize,
 }
 
+// The log's numbers are below this: not near where a sum would wrap, in bytes.
+pub const MOST_WORDS: usize = 0x0100_0000_0000_0000;
+
 // The state of a fit but for its vectors, which stand in the area.
 pub struct Fit {
     pub shape: Shape,
@@ -47,89 +50,100 @@ pub struct Fit {
     pub counters: Counters,
     pub phase: Phase,
     pub search: Search,
-    pub trials: Trials,
     // the values held, at the trial, right of the probed coordinate, and held before the last move
     pub value: f64,
-    pub trial: f64,
-    pub right: f64,
-    pub before: f64,
+    pub trial_value: f64,
+    pub right_value: f64,
+    pub value_before: f64,
     pub theta: f64,
     pub extra: Extra,
 }
 
-// The fit in another phase.
-pub fn with_phase(t: Fit, p: Phase) -> Fit
-    ensures { λ r. ⌜ r ≡ withPhase p t ⌝ }
+// The kind of a phase's question: 1 value, 2 gradient, 3 iteration notice, 0 nothing.
+pub fn question_kind(phase: Phase) -> usize
+    ensures { λ r. ⌜ r ≡ kindOf (phaseOf phase) ⌝ }
 {
-    let shape = t.shape;
-    let options = t.options;
-    let limits = t.limits;
-    let counters = t.counters;
-    let search = t.search;
-    let trials = t.trials;
-    let extra = t.extra;
+    match phase {
+        Phase::Value(_) => 1,
+        Phase::Gradient(_) => 2,
+        Phase::Probe(_, _, _) => 1,
+        Phase::Notice => 3,
+        Phase::Ended(_) => 0,
+    }
+}
+
+// The fit in another phase.
+pub fn with_phase(fit: Fit, phase: Phase) -> Fit
+    ensures { λ r. ⌜ r ≡ withPhase phase fit ⌝ }
+{
+    let shape = fit.shape;
+    let options = fit.options;
+    let limits = fit.limits;
+    let counters = fit.counters;
+    let search = fit.search;
+    let extra = fit.extra;
     Fit {
         shape: shape,
         options: options,
         limits: limits,
         counters: counters,
-        phase: p,
+        phase: phase,
         search: search,
-        trials: trials,
-        value: t.value,
-        trial: t.trial,
-        right: t.right,
-        before: t.before,
-        theta: t.theta,
+        value: fit.value,
+        trial_value: fit.trial_value,
+        right_value: fit.right_value,
+        value_before: fit.value_before,
+        theta: fit.theta,
         extra: extra,
     }
 }
 
 // The fit has ended.
-pub fn ended(t: Fit, why: Termination) -> Fit
-    ensures { λ r. ⌜ Turns (ending (terminationOf why)) t r ⌝ }
+pub fn ended(fit: Fit, why: Termination) -> Fit
+    ensures { λ r. ⌜ Turns (ending (terminationOf why)) fit r ⌝ }
 {
-    with_phase(t, Phase::Ended(why))
+    with_phase(fit, Phase::Ended(why))
 }
 
 // A value question, unless the budget is spent.
-pub fn ask_value(t: Fit, p: Phase) -> Fit
-    ensures { λ r. ⌜ Turns (askValue (phaseOf p)) t r ⌝ }
+pub fn ask_value(fit: Fit, phase: Phase) -> Fit
+    ensures { λ r. ⌜ Turns (askValue (phaseOf phase)) fit r ⌝ }
 {
-    let limits = t.limits;
-    let counters = t.counters;
+    let limits = fit.limits;
+    let counters = fit.counters;
     let charge = counters::value_charged(limits, counters);
-    let Charge::Charged(k) = charge else {
-        return ended(t, Termination::MaxEvaluations);
+    let Charge::Charged(charged) = charge else {
+        return ended(fit, Termination::MaxEvaluations);
     };
-    let mut f = with_phase(t, p);
-    f.counters = k;
-    f
+    let mut next = with_phase(fit, phase);
+    next.counters = charged;
+    next
 }
 
-// The value v at a place: at the start it is held at once.
-fn valued(t: Fit, w: Place, v: f64) -> Fit
-    ensures { λ r. ⌜ Turns (valuedOf (placeOf w) v) t r ⌝ }
+// The value at a place: at the start it is held at once.
+pub fn valued(fit: Fit, place: Place, value: f64) -> Fit
+    ensures { λ r. ⌜ Turns (valuedOf (placeOf place) value) fit r ⌝ }
 {
-    let mut f = t;
-    f.trial = v;
-    match w {
+    let mut next = fit;
+    next.trial_value = value;
+    match place {
         Place::Start => {
-            f.value = v;
-            f
+            next.value = value;
+            next
         }
-        Place::Trial => f,
+        Place::Trial => next,
     }
 }
 
-// A value that is not finite ends the fit; else the gradient is asked.
-pub fn on_value(t: Fit, w: Place, v: f64) -> Fit
-    ensures { λ r. ⌜ Turns (onValue (placeOf w) v) t r ⌝ }
+// One more entry of the log is kept, of `length` words.
+pub fn counted(fit: Fit, length: usize) -> Fit
+    requires { ⌜ (fit .extra .entries < mostWords) × (fit .extra .words < mostWords) × (length < mostWords) ⌝ }
+    ensures { λ r. ⌜ r ≡ withLog (fit .extra .entries + 1) (fit .extra .words + length) fit ⌝ }
 {
-    let f = valued(t, w, v);
-    if float::is_finite(v) {
-        with_phase(f, Phase::Gradient(w))
-    } else {
-        ended(f, Termination::Nonfinite)
-    }
+    let mut extra = fit.extra;
+    extra.entries = fit.extra.entries + 1;
+    extra.words = fit.extra.words + length;
+    let mut next = fit;
+    next.extra = extra;
+    next
 }

@@ -52,7 +52,7 @@ pub record Reached (t : Fit) (a : List Float) (k : Book) : Type 0 where
   pub is : machineOf t a ≡ runOf k
   pub sound : Sound (t .shape) (length a)
   pub area : areaNeeded (k .setup) ≤ length a
-  pub settled : Settled (t .search) (t .trials)
+  pub settled : Settled (t .search)
   pub entries : t .extra .entries ≡ length (k .replies)
   pub words : t .extra .words ≡ length (logOf k)
 

@@ -46,7 +46,7 @@ pub record Stands (w : Words) (b : Book) : Type 0 where
   pub test : isHeld (w .state) (w .area) ≡ true
   pub setup : setupOf w ≡ b .setup
   pub is : machineIn w ≡ runOf b
-  pub settled : Settled (w .state .search) (w .state .trials)
+  pub settled : Settled (w .state .search)
   pub entries : w .state .extra .entries ≡ length (b .replies)
   pub words : w .state .extra .words ≡ length (logOf b)
   pub room : w .state .extra .words ≤ length (w .log)

@@ -2,7 +2,7 @@
 ghost use Prim.Native.Nat.{_≤_};
 ghost use lib.ListN.{length};
 ghost use Rattle.definition.specs.Problem.{mostCoordinates};
-ghost use Rattle.definition.specs.Driver.{towards as towardsOf, withoutPairs, descend as descendOf, iterate as iterateOf};
+ghost use Rattle.definition.specs.Driver.{searchAlong, towards as towardsOf, withoutPairs, descend as descendOf, iterate as iterateOf};
 ghost use Rattle.area.specs.Area.{view};
 ghost use Rattle.compact.specs.State.{Sound};
 ghost use Rattle.fit.specs.State.{Steps};
@@ -11,74 +11,105 @@ ghost use Rattle.iteration.specs.Model.{Offers};
 use compact::Shape;
 use counters::Termination;
 use fit::Fit;
+use search::Verdict;
 
 // ---- the model
 
 // The Cauchy point and the target, in their vectors: the columns are laid out, and the block is built and factored once.
-fn model(area: &mut [f64], h: Shape, theta: f64) -> bool
-    requires { ⌜ Sound h (length (now area)) × (h .n ≤ mostCoordinates) ⌝ }
-    ensures { λ r. ⌜ Offers h theta (view (now (area .entry)) (h .n)) r (view (now (area .exit)) (h .n)) ⌝ }
+fn model(area: &mut [f64], shape: Shape, theta: f64) -> bool
+    requires { ⌜ Sound shape (length (now area)) × (shape .n ≤ mostCoordinates) ⌝ }
+    ensures { λ r. ⌜ Offers shape theta (view (now (area .entry)) (shape .n)) r (view (now (area .exit)) (shape .n)) ⌝ }
 {
-    compact::lay_columns(area, h, theta);
-    let block = compact::block(area, h, theta);
+    compact::lay_columns(area, shape, theta);
+    let block = compact::block(area, shape, theta);
     let z = compact::zeros();
     let mut multipliers = [z; 32];
     let mut order = [0usize; 32];
     let mut found = false;
-    let rows = solve::factor(2 * h.pairs, block, &mut multipliers, &mut order, &mut found);
-    if !cauchy::generalized_cauchy(area, h, theta, found, &rows, &multipliers, &order) {
+    let rows = solve::factor(
+        2 * shape.pairs,
+        block,
+        &mut multipliers,
+        &mut order,
+        &mut found,
+    );
+    if !cauchy::generalized_cauchy(area, shape, theta, found, &rows, &multipliers, &order) {
         return false;
     }
-    subspace::primal_minimize(area, h, theta, &block, found, &rows, &multipliers, &order)
+    subspace::primal_minimize(
+        area,
+        shape,
+        theta,
+        &block,
+        found,
+        &rows,
+        &multipliers,
+        &order,
+    )
+}
+
+// ---- the direction, and the first trial along it
+
+// The run ends here unless the search hands back a step.
+fn search_along(fit: Fit, area: &mut [f64]) -> Fit
+    requires { ⌜ Sound (fit .shape) (length (now area)) ⌝ }
+    ensures { λ r. ⌜ Steps searchAlong fit (now (area .entry)) r (now (area .exit)) ⌝ }
+{
+    let verdict = trial::begin_search(area, fit.shape.n);
+    let Verdict::Another(first) = verdict else {
+        return fit::ended(fit, Termination::LineSearchFailed);
+    };
+    trial::try_step(fit, area, first)
 }
 
 // Along the direction to the end chosen.
-fn towards(t: Fit, area: &mut [f64]) -> Fit
-    requires { ⌜ Sound (t .shape) (length (now area)) ⌝ }
-    ensures { λ r. ⌜ Steps (towardsOf (endsIn (view (now (area .entry)) (t .shape .n)))) t (now (area .entry)) r (now (area .exit)) ⌝ }
+fn towards(fit: Fit, area: &mut [f64]) -> Fit
+    requires { ⌜ Sound (fit .shape) (length (now area)) ⌝ }
+    ensures { λ r. ⌜ Steps (towardsOf (endsIn (view (now (area .entry)) (fit .shape .n)))) fit (now (area .entry)) r (now (area .exit)) ⌝ }
 {
-    subspace::head(area, t.shape.n);
-    trial::search_along(t, area)
+    subspace::head(area, fit.shape.n);
+    search_along(fit, area)
 }
 
 // The pairs are dropped for good, and the model is tried once more.
-fn without_pairs(t: Fit, area: &mut [f64]) -> Fit
-    requires { ⌜ Sound (t .shape) (length (now area)) × (t .shape .n ≤ mostCoordinates) ⌝ }
-    ensures { λ r. ⌜ Steps withoutPairs t (now (area .entry)) r (now (area .exit)) ⌝ }
+fn without_pairs(fit: Fit, area: &mut [f64]) -> Fit
+    requires { ⌜ Sound (fit .shape) (length (now area)) × (fit .shape .n ≤ mostCoordinates) ⌝ }
+    ensures { λ r. ⌜ Steps withoutPairs fit (now (area .entry)) r (now (area .exit)) ⌝ }
 {
-    let mut h = t.shape;
-    h.pairs = 0;
-    h.oldest = 0;
-    let mut f = t;
-    f.shape = h;
-    f.theta = 1.0;
-    if model(area, h, 1.0) {
-        return towards(f, area);
+    let mut shape = fit.shape;
+    shape.pairs = 0;
+    shape.oldest = 0;
+    let mut bare = fit;
+    bare.shape = shape;
+    bare.theta = 1.0;
+    if model(area, shape, 1.0) {
+        return towards(bare, area);
     }
-    fit::ended(f, Termination::LineSearchFailed)
+    fit::ended(bare, Termination::LineSearchFailed)
 }
 
 // The direction and the first trial along it.
-fn descend(t: Fit, area: &mut [f64]) -> Fit
-    requires { ⌜ Sound (t .shape) (length (now area)) × (t .shape .n ≤ mostCoordinates) ⌝ }
-    ensures { λ r. ⌜ Steps descendOf t (now (area .entry)) r (now (area .exit)) ⌝ }
+fn descend(fit: Fit, area: &mut [f64]) -> Fit
+    requires { ⌜ Sound (fit .shape) (length (now area)) × (fit .shape .n ≤ mostCoordinates) ⌝ }
+    ensures { λ r. ⌜ Steps descendOf fit (now (area .entry)) r (now (area .exit)) ⌝ }
 {
-    let h = t.shape;
-    if model(area, h, t.theta) {
-        return towards(t, area);
+    let shape = fit.shape;
+    if model(area, shape, fit.theta) {
+        return towards(fit, area);
     }
-    if h.pairs == 0 {
-        return fit::ended(t, Termination::LineSearchFailed);
+    if shape.pairs == 0 {
+        return fit::ended(fit, Termination::LineSearchFailed);
     }
-    without_pairs(t, area)
+    without_pairs(fit, area)
 }
 
-pub fn iterate(t: Fit, area: &mut [f64]) -> Fit
-    requires { ⌜ Sound (t .shape) (length (now area)) × (t .shape .n ≤ mostCoordinates) ⌝ }
-    ensures { λ r. ⌜ Steps iterateOf t (now (area .entry)) r (now (area .exit)) ⌝ }
+// One iteration, unless the gradient is small.
+pub fn iterate(fit: Fit, area: &mut [f64]) -> Fit
+    requires { ⌜ Sound (fit .shape) (length (now area)) × (fit .shape .n ≤ mostCoordinates) ⌝ }
+    ensures { λ r. ⌜ Steps iterateOf fit (now (area .entry)) r (now (area .exit)) ⌝ }
 {
-    if trial::gradient_small(t, area) {
-        return fit::ended(t, Termination::GTol);
+    if trial::gradient_small(fit, area) {
+        return fit::ended(fit, Termination::GTol);
     }
-    descend(t, area)
+    descend(fit, area)
 }

@@ -173,13 +173,13 @@ module _ (w v : Words) (e : machineIn w ≡ machineIn v) where
   same-trials : w .state .trials ≡ v .state .trials
   same-trials = λ i. record { count = e i .search .trials; face = e i .search .face; bracketed = same-bracketed i }
 
-  same-high : Settled (w .state .search) (w .state .trials) → Settled (v .state .search) (v .state .trials) → w .state .search .high ≡ v .state .search .high
+  same-high : Settled (w .state .search) → Settled (v .state .search) → w .state .search .high ≡ v .state .search .high
   same-high h k =
       sym (high-back (w .state .trials .bracketed) (w .state .search .high) h)
       ∙ ap (λ (m : M.Machine). orZero (m .search .high)) e
       ∙ high-back (v .state .trials .bracketed) (v .state .search .high) k
 
-  same-search : Settled (w .state .search) (w .state .trials) → Settled (v .state .search) (v .state .trials) → w .state .search ≡ v .state .search
+  same-search : Settled (w .state .search) → Settled (v .state .search) → w .state .search ≡ v .state .search
   same-search h k =
       let high = same-high h k in
       λ i. record { alpha = e i .search .alpha; low = e i .search .low; high = high i; slope0 = e i .search .slope0; amax = e i .search .amax }

@@ -88,7 +88,7 @@ pub record First (o : Options) (n : ℕ) (r : Fit) : Type 0 where
   pub entries : r .extra .entries ≡ 0
   pub words : r .extra .words ≡ 0
   pub shape : r .shape ≡ firstShape o n
-  pub settled : Settled (r .search) (r .trials)
+  pub settled : Settled (r .search)
   pub is : (v : Vecs) → machine r v ≡ firstMachine o n v
 
 -- r with the area b, which was a, is the machine that the setup s begins with, and s can be read off them again
@@ -100,7 +100,7 @@ pub record Opened (o : Options) (k : ℕ) (s : P.Setup) (a : List Float) (r : Fi
   pub m : r .shape .m ≡ placesIn o
   pub long : length b ≡ length a
   pub sound : Sound (r .shape) (length b)
-  pub settled : Settled (r .search) (r .trials)
+  pub settled : Settled (r .search)
   pub setup : setupAt o (view b k) ≡ s
   pub free : FreeKept (view a k) (view b k)
   pub is : machineOf r b ≡ D.begin s

@@ -66,7 +66,7 @@ pub record Built (s : P.Setup) (ws : List ℕ) (limit room : ℕ) (a : List Floa
   pub free : FreeKept (view a (f .shape .n)) (view b (f .shape .n))
   pub sound : Sound (f .shape) (length b)
   pub mark : marked (f .shape) b ≡ true
-  pub settled : Settled (f .search) (f .trials)
+  pub settled : Settled (f .search)
   pub area : areaNeeded s ≤ length b
   pub words : f .extra .words ≤ length ws
   pub within : f .extra .words ≤ room

@@ -180,7 +180,7 @@ pub record Reached (t : Fit) (a : List Float) (ws : List ℕ) (limit room : ℕ)
   pub n : f .shape .n ≡ t .shape .n
   pub m : f .shape .m ≡ t .shape .m
   pub shape : shapeHeld (f .shape) (length b) ≡ true
-  pub settled : Settled (t .search) (t .trials) → Settled (f .search) (f .trials)
+  pub settled : Settled (t .search) → Settled (f .search)
   pub saved : Saved (view a (t .shape .n)) (view b (t .shape .n))
   pub terms : machineOf f b .terms ≡ machineOf t a .terms
   pub few : f .extra .entries ≤ limit

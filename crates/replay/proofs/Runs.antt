@@ -16,10 +16,10 @@ use Rattle.fit.specs.declared.Fit.{Fit}
 use Rattle.fit.specs.declared.Place.{Place}
 use Rattle.fit.specs.declared.Phase.{Phase}
 use Rattle.fit.proofs.Laws.{steps-as}
-use Rattle.replies.specs.declared.Probing.{Probing}
-use Rattle.replies.specs.declared.Turned.{Turned}
-use Rattle.replies.specs.declared.Turned.the-variants.{Stays, On}
-use Rattle.replies.specs.Runs.{probing, TurnIs}
+use Rattle.differences.specs.declared.Probing.{Probing}
+use Rattle.differences.specs.declared.Turned.{Turned}
+use Rattle.differences.specs.declared.Turned.the-variants.{Stays, On}
+use Rattle.differences.specs.Runs.{probing, TurnIs}
 use Rattle.driver.specs.Replies.{shapeHeld}
 use Rattle.driver.specs.declared.Reply.{Reply}
 use Rattle.driver.specs.declared.Reply.the-variants as R

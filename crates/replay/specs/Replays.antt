@@ -42,11 +42,10 @@ withLog entries words t = record {
   counters = t .counters;
   phase = t .phase;
   search = t .search;
-  trials = t .trials;
   value = t .value;
-  trial = t .trial;
-  right = t .right;
-  before = t .before;
+  «trial_value» = t .«trial_value»;
+  «right_value» = t .«right_value»;
+  «value_before» = t .«value_before»;
   theta = t .theta;
   extra = record { entries = entries; words = words };
 }
@@ -84,7 +83,7 @@ pub record Keeps (t : Fit) (a : List Float) (ws : List ℕ) (limit room : ℕ) (
   pub n : f .shape .n ≡ t .shape .n
   pub m : f .shape .m ≡ t .shape .m
   pub shape : shapeHeld (f .shape) (length b) ≡ true
-  pub settled : Settled (t .search) (t .trials) → Settled (f .search) (f .trials)
+  pub settled : Settled (t .search) → Settled (f .search)
   pub saved : Saved (view a (t .shape .n)) (view b (t .shape .n))
   pub terms : machineOf f b .terms ≡ machineOf t a .terms
   pub few : f .extra .entries ≤ limit

@@ -18,10 +18,10 @@ use Rattle.search.specs.State.{Settled}
 use Rattle.fit.specs.State.{machineOf, phaseOf}
 use Rattle.fit.specs.declared.Fit.{Fit}
 use Rattle.fit.specs.declared.Place.{Place}
-use Rattle.replies.specs.declared.Probing.{Probing}
-use Rattle.replies.specs.declared.Turned.{Turned}
-use Rattle.replies.specs.declared.Turned.the-variants.{Stays, On}
-use Rattle.replies.specs.Runs.{probing}
+use Rattle.differences.specs.declared.Probing.{Probing}
+use Rattle.differences.specs.declared.Turned.{Turned}
+use Rattle.differences.specs.declared.Turned.the-variants.{Stays, On}
+use Rattle.differences.specs.Runs.{probing}
 use Rattle.driver.specs.Replies.{shapeHeld, isReady}
 pub use Rattle.driver.specs.Replies.{replied}
 use Rattle.driver.specs.declared.Reply.{Reply}
@@ -94,7 +94,7 @@ pub record Took (t : Fit) (a : List Float) (ws : List ℕ) (room : ℕ) (f : Fit
   pub m : f .shape .m ≡ t .shape .m
   pub shape : shapeHeld (f .shape) (length b) ≡ true
   pub sound : Sound (f .shape) (length b)
-  pub settled : Settled (t .search) (t .trials) → Settled (f .search) (f .trials)
+  pub settled : Settled (t .search) → Settled (f .search)
   pub saved : Saved (view a (t .shape .n)) (view b (t .shape .n))
   pub terms : machineOf f b .terms ≡ machineOf t a .terms
 

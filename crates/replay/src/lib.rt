@@ -12,17 +12,17 @@ ghost use Rattle.definition.specs.Record.{wordsOf};
 ghost use Rattle.area.specs.Area.{view, upd, firstPair, TrialGradient};
 ghost use Rattle.fit.specs.State.{Steps};
 ghost use Rattle.compact.specs.State.{Sound};
-ghost use Rattle.replies.specs.Runs.{probing};
+ghost use Rattle.differences.specs.Runs.{probing};
 ghost use Rattle.driver.specs.Replies.{shapeHeld, isReady, mostWords};
 ghost use Rattle.replay.specs.Replays.{sourceWords, Within, withLog, Replays};
 ghost use Rattle.replay.specs.Taken.{replied, sizeOf, kindReply, gradientAt, EntryIs, isDue, admission, NextIs, Run, TakenIs};
+use differences::Probing;
+use differences::Turned;
 use driver::Reply;
 use fit::Fit;
 use fit::Phase;
 use fit::Place;
 use problem::Checked;
-use replies::Probing;
-use replies::Turned;
 
 // Where entries stand: the first words of a log, or words of a record from a byte on.
 pub struct Source {
@@ -238,7 +238,7 @@ fn probe_entry(
     if room - q.extra.words < length {
         return Turned::Stays;
     }
-    let next = replies::next_probe(t, q, float::word_to_float(v), area);
+    let next = differences::next_probe(t, q, float::word_to_float(v), area);
     let Turned::On(p) = next else {
         return Turned::Stays;
     };
@@ -269,11 +269,11 @@ fn run_probes(
     while q.extra.words < s.words {
         let next = probe_entry(t, q, area, s, log, input, limit, room);
         let Turned::On(p) = next else {
-            return replies::with_probe(t, w, q);
+            return differences::with_probe(t, w, q);
         };
         q = p;
     }
-    replies::with_probe(t, w, q)
+    differences::with_probe(t, w, q)
 }
 
 // The entries that lead from probe to probe, where a probe is asked.

@@ -1,18 +1,16 @@
--- Laws of the definition's branches, over plain variables. Assumes nothing.
+-- Laws of the search's start, by its slope, over plain variables. Assumes nothing.
 use Prim.Native.Nat.{ℕ}
-use mathlib.Core.Path.{_≡_, sym, ap, _∙_}
+use mathlib.Core.Path.{_≡_}
 use mathlib.Core.Bool.{true, false}
 use mathlib.Core.List.{List}
-use mathlib.Core.Option.{Option, none}
+use mathlib.Core.Option.{none}
 use lib.Ieee as Ieee
 use lib.Ieee.{Float}
 use lib.Ieee.Scale.{finite}
 use Rattle.definition.specs.Number.{zero64}
 use Rattle.definition.specs.Vector.{dot}
 use Rattle.definition.specs.Problem.{Bounds}
-use Rattle.definition.specs.Search.{Search, beginSearch, withLimit, limitOf}
-use Rattle.definition.specs.Machine.{Machine}
-use Rattle.definition.specs.Driver.{searchAlong, trySearch}
+use Rattle.definition.specs.Search.{beginSearch, withLimit, limitOf}
 
 -- ---- the search's start, by the slope
 
@@ -28,10 +26,3 @@ module _ (n : ℕ) (b : Bounds) (x g d : List Float) {slope : Float} (e : slope 
   pub begin-downhill : finite slope ≡ true → Ieee.lt slope zero64 ≡ true → beginSearch n b x g d ≡ withLimit slope (limitOf n b x d)
   unfolding beginSearch
   begin-downhill f l = rw (← e, f, l)
-
--- ---- along the direction, by what the start hands back
-
-pub along : (m : Machine) {o r : Option Search} → r ≡ beginSearch (m .terms .n) (m .terms .bounds) (m .held .x) (m .held .g) (m .direction) → r ≡ o
-    → trySearch m o ≡ searchAlong m
-unfolding searchAlong
-along m e f = ap (trySearch m) (sym f ∙ e)

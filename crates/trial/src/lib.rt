@@ -4,21 +4,19 @@ ghost use Prim.Native.Nat.{_*_, _≤_, _<_};
 ghost use lib.ListN.{length};
 ghost use lib.Ieee.{Float};
 ghost use Rattle.definition.specs.Number.{max as maxOf};
-ghost use Rattle.definition.specs.Search.{limitOf as limitOn, beginSearch, trialPoint};
-ghost use Rattle.definition.specs.Driver.{projectedNorm, gradientSmall, decreaseSmall, tryStep, searchAlong};
+ghost use Rattle.definition.specs.Search.{limitOf as limitOn, beginSearch, trialPoint, orFailed};
+ghost use Rattle.definition.specs.Driver.{projectedNorm, gradientSmall, decreaseSmall, tryStep};
 ghost use Rattle.area.specs.Area.{Vecs, view, upd, wordsAt, firstPair, X, G, Trial, Direction};
 ghost use Rattle.compact.specs.State.{Sound};
-ghost use Rattle.search.specs.State.{searchOf, limitOf, nextOf, Settled, NextSettled};
+ghost use Rattle.search.specs.State.{searchOf, limitOf, verdictOf, Settled, VerdictSettled};
 ghost use Rattle.fit.specs.State.{machine, machineOf, Steps};
 ghost use Rattle.trial.specs.Words.{boundsOf, trialIn, projectedIn, distanceIn};
-use counters::Termination;
 use fit::Fit;
 use fit::Phase;
 use fit::Place;
 use search::Limit;
-use search::Next;
 use search::Search;
-use search::Trials;
+use search::Verdict;
 
 // ---- convergence
 
@@ -52,21 +50,21 @@ fn projected_norm(area: &[f64], n: usize) -> f64
 }
 
 // The test of gtol: equality passes.
-pub fn gradient_small(t: Fit, area: &[f64]) -> bool
-    requires { ⌜ Sound (t .shape) (length (now area)) ⌝ }
-    ensures { λ r. ⌜ r ≡ gradientSmall (machineOf t (now (area .entry))) ⌝ }
+pub fn gradient_small(fit: Fit, area: &[f64]) -> bool
+    requires { ⌜ Sound (fit .shape) (length (now area)) ⌝ }
+    ensures { λ r. ⌜ r ≡ gradientSmall (machineOf fit (now (area .entry))) ⌝ }
 {
-    projected_norm(area, t.shape.n) <= t.limits.gtol
+    projected_norm(area, fit.shape.n) <= fit.limits.gtol
 }
 
 // The test of ftol, relative to the larger of the two values and 1: equality passes.
-pub fn decrease_small(t: Fit) -> bool
-    ensures { λ r. ⌜ ((v : Vecs) → r ≡ decreaseSmall (machine t v)) ⌝ }
+pub fn decrease_small(fit: Fit) -> bool
+    ensures { λ r. ⌜ ((v : Vecs) → r ≡ decreaseSmall (machine fit v)) ⌝ }
 {
-    let old = t.before;
-    let new = t.value;
+    let old = fit.value_before;
+    let new = fit.value;
     let scale = float::max(float::max(float::abs(old), float::abs(new)), 1.0);
-    old - new <= t.limits.ftol * scale
+    old - new <= fit.limits.ftol * scale
 }
 
 // ---- trials
@@ -96,15 +94,14 @@ fn put_trial(area: &mut [f64], n: usize, alpha: f64)
 }
 
 // The next trial of a search: its value is asked.
-pub fn try_step(t: Fit, area: &mut [f64], s: Search, k: Trials) -> Fit
-    requires { ⌜ Sound (t .shape) (length (now area)) × Settled s k ⌝ }
-    ensures { λ r. ⌜ Steps (tryStep (searchOf s k)) t (now (area .entry)) r (now (area .exit)) ⌝ }
+pub fn try_step(fit: Fit, area: &mut [f64], search: Search) -> Fit
+    requires { ⌜ Sound (fit .shape) (length (now area)) × Settled search ⌝ }
+    ensures { λ r. ⌜ Steps (tryStep (searchOf search)) fit (now (area .entry)) r (now (area .exit)) ⌝ }
 {
-    put_trial(area, t.shape.n, s.alpha);
-    let mut f = t;
-    f.search = s;
-    f.trials = k;
-    fit::ask_value(f, Phase::Value(Place::Trial))
+    put_trial(area, fit.shape.n, search.step.alpha);
+    let mut next = fit;
+    next.search = search;
+    fit::ask_value(next, Phase::Value(Place::Trial))
 }
 
 // ---- the search's start
@@ -130,41 +127,30 @@ fn limit_of(area: &[f64], n: usize) -> Limit
     requires { ⌜ firstPair * n ≤ length (now area) ⌝ }
     ensures { λ r. ⌜ limitOf r ≡ limitOn n (boundsOf (view (now (area .entry)) n)) (view (now (area .entry)) n X) (view (now (area .entry)) n Direction) ⌝ }
 {
-    let mut l = Limit {
+    let mut limit = Limit {
         amax: float::STEP_LIMIT,
         face: false,
     };
     let mut i = 0;
     while i < n {
-        l = search::limited(distance_at(area, n, i), l);
+        limit = search::limited(distance_at(area, n, i), limit);
         i += 1;
     }
-    l
+    limit
 }
 
-// The first trial, or none: there is nothing to search.
-fn begin_search(area: &[f64], n: usize) -> Next
+// The first trial of a search, unless there is nothing to search.
+pub fn begin_search(area: &[f64], n: usize) -> Verdict
     requires { ⌜ firstPair * n ≤ length (now area) ⌝ }
-    ensures { λ r. ⌜ (nextOf r ≡ beginSearch n (boundsOf (view (now (area .entry)) n)) (view (now (area .entry)) n X) (view (now (area .entry)) n G) (view (now (area .entry)) n Direction)) × NextSettled r ⌝ }
+    ensures { λ r. ⌜ (let v = view (now (area .entry)) n in
+        (verdictOf r ≡ orFailed (beginSearch n (boundsOf v) (v X) (v G) (v Direction))) × VerdictSettled r) ⌝ }
 {
     let slope0 = area::dot(area, n, area::G, area::DIRECTION);
     if !float::is_finite(slope0) {
-        return Next::Nothing;
+        return Verdict::Failed;
     }
     if slope0 < 0.0 {
         return search::with_limit(slope0, limit_of(area, n));
     }
-    Next::Nothing
-}
-
-// The run ends here unless the search hands back a step.
-pub fn search_along(t: Fit, area: &mut [f64]) -> Fit
-    requires { ⌜ Sound (t .shape) (length (now area)) ⌝ }
-    ensures { λ r. ⌜ Steps searchAlong t (now (area .entry)) r (now (area .exit)) ⌝ }
-{
-    let next = begin_search(area, t.shape.n);
-    let Next::Step(s, k) = next else {
-        return fit::ended(t, Termination::LineSearchFailed);
-    };
-    try_step(t, area, s, k)
+    Verdict::Failed
 }

@@ -12,8 +12,7 @@ returns c = (simp (sym (c .before .before .decreases .ensures), sym (c .before .
 returns-2 : tie.Need-returns-2
 unfolding accepts afterTrial
 returns-2 c =
-    let a = c .before .before .before in
-    (
+    let a = c .before .before .before in (
       simp (c .after-trial .ensures .0, c .before .narrows .ensures, sym (a .before .decreases .ensures), sym (a .accepts .ensures) ∙ c .before .before .if1 .left),
       c .after-trial .ensures .1,
     )

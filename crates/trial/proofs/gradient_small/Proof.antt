@@ -9,7 +9,7 @@ projected-norm-requires c κs = first-room (c .before .pre)
 
 returns : tie.Need-returns
 unfolding gradientSmall
-returns c = rw (c .before .projected-norm .ensures (c .before .before .before .args .t .value))
+returns c = rw (c .before .projected-norm .ensures (c .before .before .before .args .fit .value))
 
 pub gradient-small-spec : {M : Type 1} → statement M
 gradient-small-spec = tie.close (tie.spec projected-norm-requires returns)
