@@ -1,17 +1,17 @@
-// Replies: the differenced gradient, coordinate by coordinate, and the notice.
+// The differenced gradient: from a value at a probe to the next probe, coordinate by coordinate, over the few numbers that it changes.
 ghost use mathlib.Core.Path.{_≡_};
 ghost use mathlib.Core.List.{List};
 ghost use Prim.Native.Nat.{_-_, _≤_, _<_};
 ghost use lib.ListN.{length};
 ghost use lib.Ieee.{Float};
 ghost use Rattle.definition.specs.Gradient.{both};
-ghost use Rattle.definition.specs.Machine.{withRight};
-ghost use Rattle.definition.specs.Driver.{probeFrom, probedTo as probedToOf, probed as probedOf, onNotSupplied, onProbe, onGoOn};
+ghost use Rattle.definition.specs.Machine.{Phase as PhaseOf};
+ghost use Rattle.definition.specs.Driver.{askValue, probeFrom, probedTo as probedToOf, probed as probedOf, onNotSupplied, onProbe};
 ghost use Rattle.gradient.specs.Probing.{probesIn};
-ghost use Rattle.fit.specs.State.{placeOf, sideOf, Turns, Steps};
+ghost use Rattle.fit.specs.State.{placeOf, sideOf, Steps};
 ghost use Rattle.compact.specs.State.{Sound};
 ghost use Rattle.judge.specs.Ready.{Ready};
-ghost use Rattle.differences.specs.Runs.{probing, asks, TurnIs, unprobed, firstSide};
+ghost use Rattle.differences.specs.Probing.{numbered, probing, Settles, reached, LeadsTo, unprobed, firstSide};
 use counters::Charge;
 use counters::Counters;
 use counters::Termination;
@@ -22,127 +22,67 @@ use fit::Place;
 use fit::Side;
 use gradient::Probes;
 
-// Coordinate i and those after it: 0 where nothing is probed, up to the first that is.
-fn probe_from(t: Fit, w: Place, i: usize, area: &mut [f64]) -> Fit
-    requires { ⌜ Ready t (length (now area)) × (i ≤ t .shape .n) ⌝ }
-    ensures { λ r. ⌜ Steps (probeFrom (t .shape .n - i) (placeOf w) i) t (now (area .entry)) r (now (area .exit)) ⌝ }
-{
-    let n = t.shape.n;
-    let mut j = i;
-    while j < n {
-        let p = question::probes_at(t, area, j);
-        match p {
-            Probes::Neither => {
-                area::put(area, n, area::TRIAL_GRADIENT, j, 0.0);
-                j += 1;
-            }
-            Probes::Both(_, _) => return fit::ask_value(t, Phase::Probe(w, j, Side::Right)),
-            Probes::RightOnly(_) => return fit::ask_value(t, Phase::Probe(w, j, Side::Right)),
-            Probes::LeftOnly(_) => return fit::ask_value(t, Phase::Probe(w, j, Side::Left)),
-        }
-    }
-    judge::complete(t, w, area)
-}
-
-// Component i of the gradient is v; on to the next coordinate.
-fn probed_to(t: Fit, w: Place, i: usize, v: f64, area: &mut [f64]) -> Fit
-    requires { ⌜ Ready t (length (now area)) × (i < t .shape .n) ⌝ }
-    ensures { λ r. ⌜ Steps (probedToOf (placeOf w) i v) t (now (area .entry)) r (now (area .exit)) ⌝ }
-{
-    area::put(area, t.shape.n, area::TRIAL_GRADIENT, i, v);
-    probe_from(t, w, i + 1, area)
-}
-
-// The value at the right probe, kept until the left one is replied.
-fn with_right(t: Fit, v: f64) -> Fit
-    ensures { λ r. ⌜ Turns (withRight v) t r ⌝ }
-{
-    let mut f = t;
-    f.right = v;
-    f
-}
-
-// The value v at a probe of coordinate i that is probed on both sides: right before left.
-fn both_probed(
-    t: Fit,
-    w: Place,
-    i: usize,
-    right: f64,
-    left: f64,
-    side: Side,
-    v: f64,
-    area: &mut [f64],
-) -> Fit
-    requires { ⌜ Ready t (length (now area)) × (i < t .shape .n) ⌝ }
-    ensures { λ r. ⌜ Steps (probedOf (placeOf w) i (both right left) (sideOf side) v) t (now (area .entry)) r (now (area .exit)) ⌝ }
-{
-    match side {
-        Side::Right => fit::ask_value(with_right(t, v), Phase::Probe(w, i, Side::Left)),
-        Side::Left => probed_to(
-            t,
-            w,
-            i,
-            gradient::both_quotient(right, left, t.right, v),
-            area,
-        ),
-    }
-}
-
-// The finite value v at the probe of coordinate i on a side.
-fn probed(t: Fit, w: Place, i: usize, p: Probes, side: Side, v: f64, area: &mut [f64]) -> Fit
-    requires { ⌜ Ready t (length (now area)) × (i < t .shape .n) ⌝ }
-    ensures { λ r. ⌜ Steps (probedOf (placeOf w) i (probesIn p) (sideOf side) v) t (now (area .entry)) r (now (area .exit)) ⌝ }
-{
-    let x = area[area::TRIAL * t.shape.n + i];
-    match p {
-        Probes::Neither => probed_to(t, w, i, 0.0, area),
-        Probes::Both(r, l) => both_probed(t, w, i, r, l, side, v, area),
-        Probes::RightOnly(r) => probed_to(
-            t,
-            w,
-            i,
-            gradient::right_quotient(x, t.trial, r, v),
-            area,
-        ),
-        Probes::LeftOnly(l) => probed_to(t, w, i, gradient::left_quotient(x, t.trial, l, v), area),
-    }
-}
-
-// ---- a run of probes
-
-// What a reply to a probe changes of a fit: the probe that is asked, the value right of it, what is charged, and the log's numbers.
+// What a value at a probe changes of a fit: the probe that is asked, the value right of it, what is charged, and the log's numbers.
 pub struct Probing {
     pub i: usize,
     pub side: Side,
-    pub right: f64,
+    pub right_value: f64,
     pub counters: Counters,
     pub extra: Extra,
 }
 
-// A reply that leads from probe to probe, or one that is left to be taken in full.
-pub enum Turned {
-    Stays,
-    On(Probing),
+// What follows: the next probe, the gradient complete, or the end of the fit; each with the numbers reached.
+pub enum Next {
+    Probe(Probing),
+    Complete(Probing),
+    Ended(Probing, Termination),
+}
+
+// ---- the numbers of a fit
+
+// Those of a fit, at the probe of coordinate i on a side.
+pub fn numbers_of(fit: Fit, i: usize, side: Side) -> Probing
+    ensures { λ r. ⌜ (numbered (fit .phase) r fit ≡ fit) × (r .i ≡ i) × (r .side ≡ side) ⌝ }
+{
+    let counters = fit.counters;
+    let extra = fit.extra;
+    Probing {
+        i: i,
+        side: side,
+        right_value: fit.right_value,
+        counters: counters,
+        extra: extra,
+    }
+}
+
+// The fit with other numbers.
+fn with_numbers(fit: Fit, numbers: Probing) -> Fit
+    ensures { λ r. ⌜ r ≡ numbered (fit .phase) numbers fit ⌝ }
+{
+    let counters = numbers.counters;
+    let extra = numbers.extra;
+    let mut next = fit;
+    next.counters = counters;
+    next.right_value = numbers.right_value;
+    next.extra = extra;
+    next
 }
 
 // The fit at a probe.
-pub fn with_probe(t: Fit, w: Place, q: Probing) -> Fit
-    ensures { λ r. ⌜ r ≡ probing w q t ⌝ }
+pub fn with_probe(fit: Fit, place: Place, numbers: Probing) -> Fit
+    ensures { λ r. ⌜ r ≡ probing place numbers fit ⌝ }
 {
-    let side = q.side;
-    let k = q.counters;
-    let extra = q.extra;
-    let mut f = fit::with_phase(t, Phase::Probe(w, q.i, side));
-    f.counters = k;
-    f.right = q.right;
-    f.extra = extra;
-    f
+    let side = numbers.side;
+    let next = with_numbers(fit, numbers);
+    fit::with_phase(next, Phase::Probe(place, numbers.i, side))
 }
 
-fn is_unprobed(p: Probes) -> bool
-    ensures { λ r. ⌜ r ≡ unprobed (probesIn p) ⌝ }
+// ---- from probe to probe
+
+fn is_unprobed(probes: Probes) -> bool
+    ensures { λ r. ⌜ r ≡ unprobed (probesIn probes) ⌝ }
 {
-    match p {
+    match probes {
         Probes::Neither => true,
         Probes::Both(_, _) => false,
         Probes::RightOnly(_) => false,
@@ -151,10 +91,10 @@ fn is_unprobed(p: Probes) -> bool
 }
 
 // The side that is probed first.
-fn first_side(p: Probes) -> Side
-    ensures { λ r. ⌜ sideOf r ≡ firstSide (probesIn p) ⌝ }
+fn first_side(probes: Probes) -> Side
+    ensures { λ r. ⌜ sideOf r ≡ firstSide (probesIn probes) ⌝ }
 {
-    match p {
+    match probes {
         Probes::Neither => Side::Right,
         Probes::Both(_, _) => Side::Right,
         Probes::RightOnly(_) => Side::Right,
@@ -162,131 +102,165 @@ fn first_side(p: Probes) -> Side
     }
 }
 
-// The next probe, of coordinate i on a side, where a value can be charged.
-fn asked(t: Fit, q: Probing, i: usize, side: Side, right: f64) -> Turned
-    requires { ⌜ i < t .shape .n ⌝ }
-    ensures { λ r. ⌜ ((a : List Float) → TurnIs (asks i (sideOf side) right) q t a r a) ⌝ }
+// The probe of coordinate i on a side, unless the budget is spent.
+fn ask_probe(fit: Fit, numbers: Probing, i: usize, side: Side) -> Next
+    requires { ⌜ i < fit .shape .n ⌝ }
+    ensures { λ r. ⌜ ((a : List Float) → LeadsTo (λ w. askValue (PhaseOf.probe w i (sideOf side))) numbers fit a r a) ⌝ }
 {
-    let limits = t.limits;
-    let counters = q.counters;
+    let limits = fit.limits;
+    let counters = numbers.counters;
     let charge = counters::value_charged(limits, counters);
-    let Charge::Charged(k) = charge else {
-        return Turned::Stays;
+    let Charge::Charged(charged) = charge else {
+        return Next::Ended(numbers, Termination::MaxEvaluations);
     };
-    let extra = q.extra;
-    Turned::On(Probing {
+    let extra = numbers.extra;
+    Next::Probe(Probing {
         i: i,
         side: side,
-        right: right,
-        counters: k,
+        right_value: numbers.right_value,
+        counters: charged,
         extra: extra,
     })
 }
 
-// Component i of the gradient is v, where the next coordinate is probed.
-fn passed_to(t: Fit, q: Probing, v: f64, area: &mut [f64]) -> Turned
-    requires { ⌜ Sound (t .shape) (length (now area)) × (q .i < t .shape .n) ⌝ }
-    ensures { λ r. ⌜ TurnIs (λ w. probedToOf w (q .i) v) q t (now (area .entry)) r (now (area .exit)) ⌝ }
+// Coordinate i and those after it: 0 where nothing is probed, up to the first that is.
+fn probe_from(fit: Fit, numbers: Probing, i: usize, area: &mut [f64]) -> Next
+    requires { ⌜ Sound (fit .shape) (length (now area)) × (i ≤ fit .shape .n) ⌝ }
+    ensures { λ r. ⌜ LeadsTo (λ w. probeFrom (fit .shape .n - i) w i) numbers fit (now (area .entry)) r (now (area .exit)) ⌝ }
 {
-    let n = t.shape.n;
-    let j = q.i + 1;
-    if n <= j {
-        return Turned::Stays;
+    let n = fit.shape.n;
+    let options = fit.options;
+    let eps = options.eps;
+    let scheme = options.scheme;
+    let mut j = i;
+    while j < n {
+        let probes = gradient::probes_at(n, eps, scheme, area, j);
+        if !is_unprobed(probes) {
+            return ask_probe(fit, numbers, j, first_side(probes));
+        }
+        area::put(area, n, area::TRIAL_GRADIENT, j, 0.0);
+        j += 1;
     }
-    let o = t.options;
-    let eps = o.eps;
-    let scheme = o.scheme;
-    let p = question::probes_by(n, eps, scheme, area, j);
-    if is_unprobed(p) {
-        return Turned::Stays;
-    }
-    let next = asked(t, q, j, first_side(p), q.right);
-    let Turned::On(r) = next else {
-        return Turned::Stays;
-    };
-    area::put(area, n, area::TRIAL_GRADIENT, q.i, v);
-    Turned::On(r)
+    Next::Complete(numbers)
 }
 
-// The value v at a probe of a coordinate that is probed on both sides: right before left.
-fn both_turned(t: Fit, q: Probing, right: f64, left: f64, v: f64, area: &mut [f64]) -> Turned
-    requires { ⌜ Sound (t .shape) (length (now area)) × (q .i < t .shape .n) ⌝ }
-    ensures { λ r. ⌜ TurnIs (λ w. probedOf w (q .i) (both right left) (sideOf (q .side)) v) q t (now (area .entry)) r (now (area .exit)) ⌝ }
+// The component of the gradient is known; on to the next coordinate.
+fn probed_to(fit: Fit, numbers: Probing, component: f64, area: &mut [f64]) -> Next
+    requires { ⌜ Sound (fit .shape) (length (now area)) × (numbers .i < fit .shape .n) ⌝ }
+    ensures { λ r. ⌜ LeadsTo (λ w. probedToOf w (numbers .i) component) numbers fit (now (area .entry)) r (now (area .exit)) ⌝ }
 {
-    let side = q.side;
+    area::put(
+        area,
+        fit.shape.n,
+        area::TRIAL_GRADIENT,
+        numbers.i,
+        component,
+    );
+    probe_from(fit, numbers, numbers.i + 1, area)
+}
+
+// The value at a probe of a coordinate that is probed on both sides: right before left.
+fn both_probed(
+    fit: Fit,
+    numbers: Probing,
+    right: f64,
+    left: f64,
+    value: f64,
+    area: &mut [f64],
+) -> Next
+    requires { ⌜ Sound (fit .shape) (length (now area)) × (numbers .i < fit .shape .n) ⌝ }
+    ensures { λ r. ⌜ LeadsTo (λ w. probedOf w (numbers .i) (both right left) (sideOf (numbers .side)) value) numbers fit (now (area .entry)) r (now (area .exit)) ⌝ }
+{
+    let side = numbers.side;
     match side {
-        Side::Right => asked(t, q, q.i, Side::Left, v),
-        Side::Left => passed_to(t, q, gradient::both_quotient(right, left, q.right, v), area),
+        Side::Right => {
+            let mut next = numbers;
+            next.right_value = value;
+            ask_probe(fit, next, numbers.i, Side::Left)
+        }
+        Side::Left => {
+            let component = gradient::both_quotient(right, left, numbers.right_value, value);
+            probed_to(fit, numbers, component, area)
+        }
     }
 }
 
-// The finite value v at a probe.
-fn probe_turned(t: Fit, q: Probing, p: Probes, v: f64, area: &mut [f64]) -> Turned
-    requires { ⌜ Sound (t .shape) (length (now area)) × (q .i < t .shape .n) ⌝ }
-    ensures { λ r. ⌜ TurnIs (λ w. probedOf w (q .i) (probesIn p) (sideOf (q .side)) v) q t (now (area .entry)) r (now (area .exit)) ⌝ }
+// The finite value at a probe, by what is probed.
+fn probed(fit: Fit, numbers: Probing, probes: Probes, value: f64, area: &mut [f64]) -> Next
+    requires { ⌜ Sound (fit .shape) (length (now area)) × (numbers .i < fit .shape .n) ⌝ }
+    ensures { λ r. ⌜ LeadsTo (λ w. probedOf w (numbers .i) (probesIn probes) (sideOf (numbers .side)) value) numbers fit (now (area .entry)) r (now (area .exit)) ⌝ }
 {
-    let x = area[area::TRIAL * t.shape.n + q.i];
-    match p {
-        Probes::Neither => Turned::Stays,
-        Probes::Both(r, l) => both_turned(t, q, r, l, v, area),
-        Probes::RightOnly(r) => passed_to(t, q, gradient::right_quotient(x, t.trial, r, v), area),
-        Probes::LeftOnly(l) => passed_to(t, q, gradient::left_quotient(x, t.trial, l, v), area),
+    let x = area[area::TRIAL * fit.shape.n + numbers.i];
+    match probes {
+        Probes::Neither => probed_to(fit, numbers, 0.0, area),
+        Probes::Both(right, left) => both_probed(fit, numbers, right, left, value, area),
+        Probes::RightOnly(right) => probed_to(
+            fit,
+            numbers,
+            gradient::right_quotient(x, fit.trial_value, right, value),
+            area,
+        ),
+        Probes::LeftOnly(left) => probed_to(
+            fit,
+            numbers,
+            gradient::left_quotient(x, fit.trial_value, left, value),
+            area,
+        ),
     }
 }
 
-// From a value at a probe to the next probe. All else is left: what ends the fit or completes the gradient, and coordinates that are not probed.
-pub fn next_probe(t: Fit, q: Probing, v: f64, area: &mut [f64]) -> Turned
-    requires { ⌜ Sound (t .shape) (length (now area)) × (q .i < t .shape .n) ⌝ }
-    ensures { λ r. ⌜ TurnIs (λ w. onProbe w (q .i) (sideOf (q .side)) v) q t (now (area .entry)) r (now (area .exit)) ⌝ }
+// From a value at a probe to what follows. A value that is not finite ends the fit.
+pub fn next_probe(fit: Fit, numbers: Probing, value: f64, area: &mut [f64]) -> Next
+    requires { ⌜ Sound (fit .shape) (length (now area)) × (numbers .i < fit .shape .n) ⌝ }
+    ensures { λ r. ⌜ LeadsTo (λ w. onProbe w (numbers .i) (sideOf (numbers .side)) value) numbers fit (now (area .entry)) r (now (area .exit)) ⌝ }
 {
-    if !float::is_finite(v) {
-        return Turned::Stays;
+    if !float::is_finite(value) {
+        return Next::Ended(numbers, Termination::Nonfinite);
     }
-    let o = t.options;
-    let eps = o.eps;
-    let scheme = o.scheme;
-    let p = question::probes_by(t.shape.n, eps, scheme, area, q.i);
-    probe_turned(t, q, p, v, area)
+    let options = fit.options;
+    let eps = options.eps;
+    let scheme = options.scheme;
+    let probes = gradient::probes_at(fit.shape.n, eps, scheme, area, numbers.i);
+    probed(fit, numbers, probes, value, area)
+}
+
+// The fit at what follows; a gradient that is complete is judged.
+pub fn settle(fit: Fit, place: Place, next: Next, area: &mut [f64]) -> Fit
+    requires { ⌜ Ready (numbered (fit .phase) (reached next) fit) (length (now area)) ⌝ }
+    ensures { λ r. ⌜ Settles place (fit .phase) fit (now (area .entry)) next r (now (area .exit)) ⌝ }
+{
+    match next {
+        Next::Probe(numbers) => with_probe(fit, place, numbers),
+        Next::Complete(numbers) => {
+            let complete = with_numbers(fit, numbers);
+            judge::complete(complete, place, area)
+        }
+        Next::Ended(numbers, why) => {
+            let last = with_numbers(fit, numbers);
+            fit::with_phase(last, Phase::Ended(why))
+        }
+    }
 }
 
 // ---- replies
 
 // Nothing supplied: the gradient is differenced, from coordinate 0 on.
-pub fn on_not_supplied(t: Fit, w: Place, area: &mut [f64]) -> Fit
-    requires { ⌜ Ready t (length (now area)) ⌝ }
-    ensures { λ r. ⌜ Steps (onNotSupplied (placeOf w)) t (now (area .entry)) r (now (area .exit)) ⌝ }
+pub fn on_not_supplied(fit: Fit, place: Place, area: &mut [f64]) -> Fit
+    requires { ⌜ Ready fit (length (now area)) ⌝ }
+    ensures { λ r. ⌜ Steps (onNotSupplied (placeOf place)) fit (now (area .entry)) r (now (area .exit)) ⌝ }
 {
-    area::fill(area, t.shape.n, area::TRIAL_GRADIENT, 0.0);
-    probe_from(t, w, 0, area)
+    area::fill(area, fit.shape.n, area::TRIAL_GRADIENT, 0.0);
+    let numbers = numbers_of(fit, 0, Side::Right);
+    let next = probe_from(fit, numbers, 0, area);
+    settle(fit, place, next, area)
 }
 
-// A probe that is not finite ends the fit.
-pub fn on_probe(t: Fit, w: Place, i: usize, side: Side, v: f64, area: &mut [f64]) -> Fit
-    requires { ⌜ Ready t (length (now area)) × (i < t .shape .n) ⌝ }
-    ensures { λ r. ⌜ Steps (onProbe (placeOf w) i (sideOf side) v) t (now (area .entry)) r (now (area .exit)) ⌝ }
+// The value at a probe of coordinate i.
+pub fn on_probe(fit: Fit, place: Place, i: usize, side: Side, value: f64, area: &mut [f64]) -> Fit
+    requires { ⌜ Ready fit (length (now area)) × (i < fit .shape .n) ⌝ }
+    ensures { λ r. ⌜ Steps (onProbe (placeOf place) i (sideOf side) value) fit (now (area .entry)) r (now (area .exit)) ⌝ }
 {
-    if float::is_finite(v) {
-        let p = question::probes_at(t, area, i);
-        return probed(t, w, i, p, side, v, area);
-    }
-    fit::ended(t, Termination::Nonfinite)
-}
-
-// The iteration budget before convergence, the gradient before the decrease.
-pub fn on_go_on(t: Fit, area: &mut [f64]) -> Fit
-    requires { ⌜ Ready t (length (now area)) ⌝ }
-    ensures { λ r. ⌜ Steps onGoOn t (now (area .entry)) r (now (area .exit)) ⌝ }
-{
-    let l = t.limits;
-    let k = t.counters;
-    if counters::iterations_spent(l, k) {
-        return fit::ended(t, Termination::MaxIterations);
-    }
-    if trial::gradient_small(t, area) {
-        return fit::ended(t, Termination::GTol);
-    }
-    if trial::decrease_small(t) {
-        return fit::ended(t, Termination::FTol);
-    }
-    iteration::iterate(t, area)
+    let numbers = numbers_of(fit, i, side);
+    let next = next_probe(fit, numbers, value, area);
+    settle(fit, place, next, area)
 }

@@ -1,7 +1,7 @@
 -- Laws of `specs/State.antt`: how `Turns` and `Steps` join, and what leaves the machine as it was. Assumes nothing.
 use mathlib.Core.Path.{_≡_, refl, ap, _∙_}
 use mathlib.Core.List.{List}
-use mathlib.Core.Option.{some}
+use mathlib.Core.Option.{none, some}
 use Prim.Native.Nat.{ℕ, _+_, _*_, _≤_, _<_}
 use native.Mathlib.Omega.{arith}
 use lib.Ieee.{Float}
@@ -12,7 +12,7 @@ use Rattle.definition.specs.Driver.{askValue}
 use Rattle.area.specs.Area.{Vecs, view, upd, firstPair, firstColumn, vectors, FreeKept, ScratchOnly, Saved, X, G, Lower, Upper, X0, Trial, TrialGradient, Direction}
 use Rattle.area.proofs.Laws.{saved-refl, saved-trans, saved-scratch}
 use Rattle.counters.specs.Counts.{valueCharge}
-use Rattle.counters.proofs.Laws.{charge-made}
+use Rattle.counters.proofs.Laws.{charge-made, charge-spent}
 use Rattle.compact.specs.declared.Shape.{Shape}
 use Rattle.compact.specs.State.{pairSlot, pairAt, pairsOf, compactOf, Sound}
 use Rattle.compact.proofs.Laws.{tab-same, place-below, vector-room}
@@ -215,6 +215,11 @@ compacted {t} {h} {theta} {c} {a} {b} n m s e l f = record {
 pub charge-asks : (p : M.Phase) (m : M.Machine) (k : C.Counters) → some k ≡ valueCharge (m .limits) (m .counters) → M.inPhase p (M.counting k m) ≡ askValue p m
 unfolding askValue
 charge-asks p m k e = let h = charge-made (m .limits) (m .counters) k e in rw (h .0, h .1)
+
+-- one that is not made ends the fit
+pub charge-ends : (p : M.Phase) (m : M.Machine) → none ≡ valueCharge (m .limits) (m .counters) → M.ending C.Termination.maxEvaluations m ≡ askValue p m
+unfolding askValue
+charge-ends p m e = rw (charge-spent (m .limits) (m .counters) e)
 
 -- ---- room
 

@@ -1,25 +1,28 @@
 -- `differences::both_probed` meets its contract: right of the coordinate, then left of it. Assumes nothing.
-use mathlib.Core.Path.{refl}
+use denote.Ref.{now}
 use borrow.Author.Needs.{needs}
-use Rattle.fit.proofs.Laws.{turns-then, still}
-use Rattle.differences.proofs.Laws.{component-as}
+use Rattle.differences.proofs.Laws.{right-probed, left-probed}
 use Rattle.differences.proofs.both_probed.Statement.{statement}
 use Rattle.differences.proofs.both_probed.Tie as tie
 
 returns : tie.Need-returns
-returns c = rw (c .before .before .enum-told .given .1) (still (turns-then (c .before .with-right .ensures) (c .ask-value .ensures)) refl)
+returns c =
+    let a = c .before .before .before .before .args in
+    right-probed (a .numbers) (a .fit) (now (a .area)) (a .right) (a .left) (a .value) _ (c .ask-probe .ensures (now (a .area))) (c .before .enum-told .given .1)
 
 returns-2 : tie.Need-returns-2
 returns-2 c =
-    rw (c .before .before .before .before .before .enum-told2 .given .1)
-    (component-as _ _ (c .before .before .probed-to .ensures) (c .before .before .before .before .both-quotient .ensures) refl)
+    let k = c .before .before in
+    let b = k .before .before in
+    let a = b .before .before .before .before .args in
+    left-probed (a .numbers) (a .fit) (now (a .area)) (a .right) (a .left) (a .value) _ _ _ (k .probed-to .ensures) (b .both-quotient .ensures)
+    (b .before .enum-told2 .given .1)
 
 pub both-probed-spec : {M : Type 1} → statement M
 both-probed-spec =
     tie.close
     (tie.spec
     (λ c. search needs)
-    (λ c κs. search needs)
     (λ c κs. search needs)
     (λ c. search needs)
     (λ c κs. search needs)

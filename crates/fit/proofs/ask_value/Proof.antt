@@ -1,22 +1,13 @@
 -- `fit::ask_value` meets its contract: the charge says whether the budget lasts. Assumes nothing.
-use mathlib.Core.Path.{_≡_, refl, sym, ap, _∙_}
-use mathlib.Core.Option.{none}
+use mathlib.Core.Path.{refl, sym, ap, _∙_}
 use borrow.Author.Needs.{needs}
-use Rattle.definition.specs.Counters.{Termination}
-use Rattle.definition.specs.Machine.{Phase, Machine, ending}
-use Rattle.definition.specs.Driver.{askValue}
-use Rattle.counters.specs.Counts.{chargeOf, valueCharge}
-use Rattle.counters.proofs.Laws.{charge-spent}
-use Rattle.fit.proofs.Laws.{turns-as, charge-asks}
+use Rattle.counters.specs.Counts.{chargeOf}
+use Rattle.fit.proofs.Laws.{turns-as, charge-asks, charge-ends}
 use Rattle.fit.proofs.ask_value.Statement.{statement}
 use Rattle.fit.proofs.ask_value.Tie as tie
 
-spent : (p : Phase) (m : Machine) → none ≡ valueCharge (m .limits) (m .counters) → ending Termination.maxEvaluations m ≡ askValue p m
-unfolding askValue
-spent p m e = rw (charge-spent (m .limits) (m .counters) e)
-
 returns : tie.Need-returns
-returns c = turns-as (c .ended .ensures) (λ v. spent _ _ (sym (ap chargeOf (c .before .enum-told .given .1)) ∙ c .before .before .before .value-charged .ensures))
+returns c = turns-as (c .ended .ensures) (λ v. charge-ends _ _ (sym (ap chargeOf (c .before .enum-told .given .1)) ∙ c .before .before .before .value-charged .ensures))
 
 returns-2 : tie.Need-returns-2
 returns-2 c =
