@@ -146,14 +146,14 @@ setup-numbered s =
     (given (finiteNonnegative 2) (s .gtol) then given (positive 3) (s .maxcor) then given (finitePositive 2) (s .eps)) (not-below 1 (s .ftol))
     (both (given (finiteNonnegative 2) (s .gtol)) (given (positive 3) (s .maxcor) then given (finitePositive 2) (s .eps)) (not-below 2 (s .gtol)) last) in
     let budgets =
-        both (given (atMost mostBudget 3) (s .maxiter)) (given (atMost mostBudget 4) (s .maxfev)) (limited mostBudget 3 (s .maxiter))
-        (limited mostBudget 4 (s .maxfev)) in
+    both (given (atMost mostBudget 3) (s .maxiter)) (given (atMost mostBudget 4) (s .maxfev)) (limited mostBudget 3 (s .maxiter))
+    (limited mostBudget 4 (s .maxfev)) in
     let limits =
     both (atMost mostCoordinates 1 (length (s .x0)))
     (given (atMost mostPairs 2) (s .maxcor) then given (atMost mostBudget 3) (s .maxiter) then given (atMost mostBudget 4) (s .maxfev))
     (limit mostCoordinates 1 (length (s .x0)))
     (both (given (atMost mostPairs 2) (s .maxcor)) (given (atMost mostBudget 3) (s .maxiter) then given (atMost mostBudget 4) (s .maxfev))
-        (limited mostPairs 2 (s .maxcor)) budgets) in
+    (limited mostPairs 2 (s .maxcor)) budgets) in
     both (checkProblem s) (checkCommon s then checkOptions s then checkLimits s) (problem s)
     (both (checkCommon s) (checkOptions s then checkLimits s) common (both (checkOptions s) (checkLimits s) options limits))
 

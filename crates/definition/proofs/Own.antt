@@ -146,7 +146,7 @@ module _ (s : Setup) (rs : List Reply) (r : Reply) where
   unfolding run begin lastTaken firstValue given-now
   first-held v e q =
       let h : StartHeld s (Reply.value v ∷ []) (projectedStart s) (toFloat v)
-          = record { point = refl; given = given-now s Place.start [] v refl; first = refl } in
+      = record { point = refl; given = given-now s Place.start [] v refl; first = refl } in
       rw (e, q) ((λ _. h), (λ _. h))
 
   trial-tried : (v : ℕ) → b .phase ≡ Phase.value Place.trial → r ≡ Reply.value v → Tried s (r ∷ rs) (b .trial .x) (toFloat v)

@@ -93,7 +93,7 @@ module _ (f : Format) where
       round-exact f s (suc m * up e) (down e) (suc m) (j .0) (down-pos e)
       (ltb→lt (suc m) (2 ^ prec f) (and-r A B (and-l (A && B) C abc)))
       (rw pow-add (room (suc m) (up e) (2 ^ low f) (2 ^ (j .0)) (2 ^ suc (emax f)) (down e) (j .1)
-              (ltb→lt (suc m * up e) (2 ^ suc (emax f) * down e) (and-r (A && B && C) D h)) (pow-pos (low f))))
+      (ltb→lt (suc m * up e) (2 ^ suc (emax f) * down e) (and-r (A && B && C) D h)) (pow-pos (low f))))
       (rw (mul-assoc (suc m) (up e) (2 ^ low f), j .1) (sym (mul-assoc (suc m) (2 ^ (j .0)) (down e))))
 
   same-value : (s : Bool) (m : ℕ) (e : ℤ) (n : ℕ) (d : ℤ) → T (fits f (fin s m e)) → T (fits f (fin s n d)) → m * up e * down d ≡ n * up d * down e

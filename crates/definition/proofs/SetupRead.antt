@@ -127,7 +127,7 @@ module _ (ws : List ℕ) (h : Words ws) where
       let size : length (floatsAt ws 7 n) ≡ n = length-map (take n (drop 7 ws)) toFloat ∙ length-take-le n (drop 7 ws) (omega (arith, length-drop 7 ws)) in
       let shape : shapeWord (setupIn ws) ≡ w
       = rw (size, word-of-count (maxcorIn w), box-flag (w / 65536 % 2) (boxAt ws n) (omega arith), scheme-flag (w / 131072 % 2) (omega arith))
-          (shape-whole w small) in
+      (shape-whole w small) in
       let at : (k : ℕ) → k < 7 → getD ws k 0 < wordSize = λ k l. each-at (λ v. v < wordSize) ws k 0 h (omega arith) in
       let rest = point-words n (length (floatsAt ws 7 n)) (hasBox w) (each-so Finite Plain (floatsAt ws 7 n) finite-plain (p .x0)) (p .bounds) in
       let tol = word-of-option (getD ws 3 0) (at 3 (omega arith)) (p .tol) in

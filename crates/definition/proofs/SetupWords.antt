@@ -122,7 +122,7 @@ bounds-back pre log (some b) w n a r e h f =
     let high : floatsAt (pre ++ (lower ++ upper ++ log)) (7 + 2 * n) n ≡ b .upper
     = rw (split, ← (append-assoc pre lower (upper ++ log)))
     (floats-at (pre ++ lower) log (b .upper) (7 + 2 * n) n (omega (arith, length-append pre lower, length-map (b .lower) toWord, h .lower .size))
-        (h .upper .size) (f .1)) in
+    (h .upper .size) (f .1)) in
     rw (e, r) (ap₂ (λ (x y : List Float). some (record { lower = x; upper = y })) low high)
 
 module _ (s : Setup) (log : List ℕ) (a : Accepted s) (f : SetupFloats s) where
@@ -140,7 +140,7 @@ module _ (s : Setup) (log : List ℕ) (a : Accepted s) (f : SetupFloats s) where
       = rw split (floats-at seven (boundWords (s .bounds) ++ log) (s .x0) 7 (nIn w) refl (sym (h .n-in)) (f .x0)) in
       let bounds : boundsIn all w ≡ s .bounds
       = rw split
-          (bounds-back (seven ++ xs) log (s .bounds) w (dimension s) (omega (arith, length-map (s .x0) toWord)) (h .n-in) (h .b-in) (p .bounds) (f .bounds)) in
+      (bounds-back (seven ++ xs) log (s .bounds) w (dimension s) (omega (arith, length-map (s .x0) toWord)) (h .n-in) (h .b-in) (p .bounds) (f .bounds)) in
       let maxiter = count-back mostBudget (s .maxiter) (p .maxiter) in
       let maxfev = count-back mostBudget (s .maxfev) (p .maxfev) in
       let tol = option-back (s .tol) (f .tol) (p .tol) in
@@ -149,16 +149,32 @@ module _ (s : Setup) (log : List ℕ) (a : Accepted s) (f : SetupFloats s) where
       let maxcor : countGiven (maxcorIn w) ≡ s .maxcor = ap countGiven (h .c-in) ∙ count-back mostPairs (s .maxcor) (p .maxcor) in
       let eps = option-back (s .eps) (f .eps) (p .eps) in
       let scheme = scheme-back w (s .scheme) (h .q-in) in
-      λ i. record { x0 = x0 i; bounds = bounds i; maxiter = maxiter i; maxfev = maxfev i; tol = tol i; ftol = ftol i; gtol = gtol i; maxcor = maxcor i;
-          eps = eps i; scheme = scheme i }
+      λ i. record {
+        x0 = x0 i;
+        bounds = bounds i;
+        maxiter = maxiter i;
+        maxfev = maxfev i;
+        tol = tol i;
+        ftol = ftol i;
+        gtol = gtol i;
+        maxcor = maxcor i;
+        eps = eps i;
+        scheme = scheme i;
+      }
 
 -- ---- its words: how many, and each below 2 ^ 64
 
 bounds-length : (n : ℕ) (o : Option Bounds) → Given (Sides n) o → length (boundWords o) ≡ boxFlag o * (2 * n)
 bounds-length n none h = omega arith
 bounds-length n (some b) h =
-    omega (arith, length-append (map toWord (b .lower)) (map toWord (b .upper)), length-map (b .lower) toWord, length-map (b .upper) toWord, h .lower .size,
-        h .upper .size)
+    omega (
+      arith,
+      length-append (map toWord (b .lower)) (map toWord (b .upper)),
+      length-map (b .lower) toWord,
+      length-map (b .upper) toWord,
+      h .lower .size,
+      h .upper .size,
+    )
 
 length-in : (o : Option Bounds) (w n : ℕ) → nIn w ≡ n → w / 65536 % 2 ≡ boxFlag o → setupLength w ≡ 7 + n + boxFlag o * (2 * n)
 length-in none w n r e = rw (e, r) (omega arith)

@@ -68,7 +68,7 @@ value-turn w v m e = go (finite (toFloat v)) refl
   where
     go : (t : Bool) → finite (toFloat v) ≡ t
         → Turn m (Reply.value v) (t && false)
-            (cond t (inPhase (Phase.gradient w) (valued w (toFloat v) m)) (ending Termination.nonfinite (valued w (toFloat v) m)))
+        (cond t (inPhase (Phase.gradient w) (valued w (toFloat v) m)) (ending Termination.nonfinite (valued w (toFloat v) m)))
     go true q = Turn.value w v e q
     go false q = Turn.nonfinite w v e q
 
