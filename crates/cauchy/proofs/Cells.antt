@@ -66,6 +66,6 @@ module _ {M : Type 1} (𝓤 : URA M) (H : Heap 𝓤) (A : Atoms 𝓤) (W : Given
   unpacks xs l =
       qed W (‵ (partAt R fullShare xs l 0) ∷ []) ∵
       fpick ! (λ vs. fsplit ! $
-          spelt ! R (Is R) (shows 𝓤 H A R) (array-vals vals) (array-tells T.the-row vals (LL.tells T.the-type T′.the-laws) mostCoordinates)
-              fullShare xs vs l 0 $
-          fjoin ! $ done !)
+      spelt ! R (Is R) (shows 𝓤 H A R) (array-vals vals) (array-tells T.the-row vals (LL.tells T.the-type T′.the-laws) mostCoordinates)
+      fullShare xs vs l 0 $
+      fjoin ! $ done !)

@@ -65,7 +65,7 @@ stops a n i p {bound} {x} h b y d e f =
       is = rw (f, e, d, c, z) refl;
       kept =
           rw (f, e, d) (scratch-upd _ _ (omega arith) (omega arith)
-              (scratch-upd _ _ (omega arith) (omega arith) (scratch-upd _ _ (omega arith) (omega arith) scratch-refl)));
+          (scratch-upd _ _ (omega arith) (omega arith) (scratch-upd _ _ (omega arith) (omega arith) scratch-refl)));
     }
 
 -- ---- every break at a time stops its coordinate
@@ -117,10 +117,10 @@ stopping-more {n} {b} {t} {p₀} {a₀} {p} {a} {k} {q} {c} l s h e f r =
       is =
           ap (λ (d : D.Path). stopAll (b .count - d .event) (boundsOf a₀) (a₀ X) (breakList b) t d) (r .is)
           ∙ (λ i. stopAll (b .count - (p .event + 1)) (boundsOf a₀) (a₀ X) (breakList b) t
-              (stopped (bounds-kept (s .kept) i) (s .kept .low X (omega arith) i) (k .coordinate) (pathOf p a)))
+          (stopped (bounds-kept (s .kept) i) (s .kept .low X (omega arith) i) (k .coordinate) (pathOf p a)))
           ∙ ap (λ (d : Break). stopAll (b .count - (p .event + 1)) (boundsOf a₀) (a₀ X) (breakList b) t
-              (stopped (boundsOf a₀) (a₀ X) (d .coordinate) (pathOf p a)))
-              (sym g)
+          (stopped (boundsOf a₀) (a₀ X) (d .coordinate) (pathOf p a)))
+          (sym g)
           ∙ sym (stop-next (boundsOf a₀) (a₀ X) (breakList b) t (b .count) (pathOf p a) h (rw g f))
           ∙ s .is;
       kept = scratch-trans (s .kept) (r .kept);

@@ -224,7 +224,7 @@ segment-kept : (h : Shape) (theta : Float) (b : Breaks) (p : Path) {a v : Vecs} 
     → segmentAt h theta b p v ≡ segment (h .n) (boundsOf a) (compactOf h theta a) (a X) (a G) (breakList b) (pathOf p v)
 segment-kept h theta b p {a} {v} k =
     λ i. segment (h .n) (bounds-kept k i) (compact-kept h theta a v (k .high) i) (k .low X (omega arith) i) (k .low G (omega arith) i) (breakList b)
-        (pathOf p v)
+    (pathOf p v)
 
 -- the path p with the vectors v, and `left` segments more, are on their way from p₀ with a
 pub record Walking (h : Shape) (theta : Float) (b : Breaks) (left₀ : ℕ) (p₀ : Path) (a : Vecs) (left : ℕ) (p : Path) (v : Vecs) : Type 0 where

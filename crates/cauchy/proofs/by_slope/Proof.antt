@@ -25,8 +25,11 @@ returns-3 c =
     let f = t .before .before .before in
     let s = f .before .before .before .before .args in
     slope-ends (s .n) (s .b) (s .p) (s .slope) (s .curvature)
-    (simp (sym (f .before .before .is-finite .ensures) ∙ not-false _ (f .before .if1 .left),
-        sym (f .is-finite2 .ensures) ∙ not-false _ (t .before .before .if2 .left), rw zero-is at (t .before .if3 .taken)))
+    (simp (
+      sym (f .before .before .is-finite .ensures) ∙ not-false _ (f .before .if1 .left),
+      sym (f .is-finite2 .ensures) ∙ not-false _ (t .before .before .if2 .left),
+      rw zero-is at (t .before .if3 .taken),
+    ))
     (rw zero-is at (t .if4 .taken)) (c .before .before .point-on-path .ensures)
 
 returns-4 : tie.Need-returns-4
@@ -36,8 +39,11 @@ returns-4 c =
     let f = t .before .before .before in
     let s = f .before .before .args in
     slope-goes (s .n) (s .b) (s .p) (s .slope) (s .curvature)
-    (simp (sym (f .is-finite .ensures) ∙ not-false _ (t .before .before .if1 .left), sym (t .before .is-finite2 .ensures) ∙ not-false _ (t .if2 .left),
-        rw zero-is at (n .before .before .if3 .taken)))
+    (simp (
+      sym (f .is-finite .ensures) ∙ not-false _ (t .before .before .if1 .left),
+      sym (t .before .is-finite2 .ensures) ∙ not-false _ (t .if2 .left),
+      rw zero-is at (n .before .before .if3 .taken),
+    ))
     (rw zero-is at (n .before .if4 .left)) (n .next-time .ensures) (c .before .before .along .ensures)
 
 returns-5 : tie.Need-returns-5
@@ -45,8 +51,11 @@ returns-5 c =
     let t = c .before .before .before in
     let s = t .before .before .before .args in
     slope-fails (s .n) (s .b) (s .p) (s .slope) (s .curvature)
-    (simp (sym (t .before .is-finite .ensures) ∙ not-false _ (t .if1 .left), sym (c .before .before .is-finite2 .ensures) ∙ not-false _ (c .before .if2 .left),
-        rw zero-is at (c .if3 .left)))
+    (simp (
+      sym (t .before .is-finite .ensures) ∙ not-false _ (t .if1 .left),
+      sym (c .before .before .is-finite2 .ensures) ∙ not-false _ (c .before .if2 .left),
+      rw zero-is at (c .if3 .left),
+    ))
 
 pub by-slope-spec : {M : Type 1} → statement M
 by-slope-spec =

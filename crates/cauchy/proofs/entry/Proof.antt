@@ -97,7 +97,7 @@ module _ {M : Type 1} (𝓤 : URA M) (H : Heap 𝓤) (A : Atoms 𝓤) (W : Given
 
   goes-callee : length xs ≡ mostCoordinates → (α l : ℕ) (δ : GName)
       → ent 𝓤 (sep 𝓤 (A .lft (α ∷ []) fullShare) (sem 𝓤 H A (ShrSlice (named 0) (α ∷ []) T.the-row .own (x l δ) (sliceVal (l, 0) (length xs) ∷ []))))
-          (Callee 𝓤 H A at-mem run .pre (to-callee α l δ))
+      (Callee 𝓤 H A at-mem run .pre (to-callee α l δ))
   goes-callee len α l δ =
       qed W (‵ (flft (α ∷ []) fullShare) ∷ ‵ (ShrSlice (named 0) (α ∷ []) T.the-row .own (x l δ) (sliceVal (l, 0) (length xs) ∷ [])) ∷ []) ∵
       says ! (subst (λ (m : ℕ). i < m) (sym len) within) $ nothing ! $ move ! (1 ∷ 0 ∷ []) $ join ! $ frame ! $
@@ -119,30 +119,30 @@ module _ {M : Type 1} (𝓤 : URA M) (H : Heap 𝓤) (A : Atoms 𝓤) (W : Given
         pass1 ! (init ! 6 refl (tt, record { fits = gi })) $ pass0 ! $
         move ! (13 ∷ []) $ fsplit ! $
         assigns ! (of-opd ! (load ! (from ! (stop !)) (look ! 10 refl))) (from ! (stop !))
-            (init ! 6 refl (array-lawful 𝓤 H A W T.the-row (LL.lawful T.the-type T′.the-laws 𝓤 H A W) mostCoordinates .typed xs _ was .0)) $
+        (init ! 6 refl (array-lawful 𝓤 H A W T.the-row (LL.lawful T.the-type T′.the-laws 𝓤 H A W) mostCoordinates .typed xs _ was .0)) $
         assigns ! (addr ! (from ! (stop !))) (from ! (stop !)) (init ! 4 refl (tt, tt)) $
         assigns ! (agg ! (and-then ! (load ! (from ! (stop !)) (look ! 4 refl)) (and-then ! (lit ! tt) (no-more !)))) (from ! (stop !))
-            (init ! 2 refl (tt, (tt, (record { fits = lit< tt }, tt)))) $
+        (init ! 2 refl (tt, (tt, (record { fits = lit< tt }, tt)))) $
         -- the array is its elements side by side, which are lent for a new lifetime
         move ! (6 ∷ []) $ use1 W (‵ (cellAt fullShare (R .mir) (aval xs ∷ []) l₃ 0)) (W .laws .at-raw fullShare array l₃ 0 (aval xs)) $
         use2 W (‵ (partAt R fullShare xs l₃ 0)) (packs 𝓤 H A W xs l₃) $
         use1 W (‵ (fsep (feq ℕ (length xs) mostCoordinates) (row T.the-row fullShare xs l₃ 0)))
-            (array-apart 𝓤 H A W T.the-row fullShare tt mostCoordinates xs l₃ 0) $
+        (array-apart 𝓤 H A W T.the-row fullShare tt mostCoordinates xs l₃ 0) $
         fsplit ! $ feqL ! (λ len.
         feqI ! ℕ (length xs) (length xs) refl $ fjoin ! $
         rewrite ! 2 (λ (m : ℕ). ‵ (fat fullShare slice l₅ 0 (sliceVal (l₃, 0) m))) (sym len) refl $
         lft-new ! tt (λ α. move ! (1 ∷ []) $
         use1 W (later (some (λ (δ : GName). ‵ (ShrSlice (named 0) (α ∷ []) T.the-row .own (x l₃ δ) (sliceVal (l₃, 0) (length xs) ∷ []))
-            ⊛ ‵ (flent (α ∷ []) (arr-parts (shares T.the-row) (length xs) .part fullShare xs l₃ 0)))))
-            (lends-shr-slice 𝓤 H A W T.the-row (named 0) (α ∷ []) fullShare xs l₃ 0 (subst (Room T.the-row) (sym len) (lit< tt, lit< tt))) $
+        ⊛ ‵ (flent (α ∷ []) (arr-parts (shares T.the-row) (length xs) .part fullShare xs l₃ 0)))))
+        (lends-shr-slice 𝓤 H A W T.the-row (named 0) (α ∷ []) fullShare xs l₃ 0 (subst (Room T.the-row) (sym len) (lit< tt, lit< tt))) $
         await ! tt $ pick ! (λ δ. split ! $ move ! (2 ∷ 0 ∷ []) $
         use2 W (raw (Callee 𝓤 H A at-mem run .pre (to-callee α l₃ δ))) (goes-callee len α l₃ δ) $
         -- [what the callee asks; the lender's part; the rest; _5 at 3; _4 at 5; _3's rest at 7; _2 at 8; _1 at 10; _0 at 12; true]
         calls-at ! fm (Callee 𝓤 H A at-mem run) known (to-callee α l₃ δ)
-            (and-then ! (load ! (from ! (stop !)) (look ! 3 refl)) (and-then ! (load ! (from ! (stop !)) (look ! 8 refl)) (no-more !))) (λ w.
+        (and-then ! (load ! (from ! (stop !)) (look ! 3 refl)) (and-then ! (load ! (from ! (stop !)) (look ! 8 refl)) (no-more !))) (λ w.
         use1 W (later (some (λ (r : BreakTime). ((‵ (flft (α ∷ []) fullShare) ⊛ ‵ ftrue) ⊛ ‵ (T.the-row .own r (w ∷ [])))
-            ⊛ raw (ensured 𝓤 H A callee.ended (callee.clauses 𝓤 H A at-mem run) (α ∷ [], tt) (x l₃ δ, (i, tt)) tt r))))
-            (id⊢ 𝓤 _) $
+        ⊛ raw (ensured 𝓤 H A callee.ended (callee.clauses 𝓤 H A at-mem run) (α ∷ [], tt) (x l₃ δ, (i, tt)) tt r))))
+        (id⊢ 𝓤 _) $
         await ! tt $ pick ! (λ r.
         split ! $ move ! (1 ∷ []) $ use1 W (raw (fact 𝓤 (r ≡ getD xs i noBreakTime))) (told 𝓤 H A at-mem run (α ∷ [], tt) (x l₃ δ) i r) $
         heard ! (r ≡ getD xs i noBreakTime) (λ e.
@@ -167,7 +167,7 @@ module _ {M : Type 1} (𝓤 : URA M) (H : Heap 𝓤) (A : Atoms 𝓤) (W : Given
       walked 𝓤 H A this.ended stayed (this.clauses 𝓤 H A at-mem run) (WpFn 𝓤 H C Λ code.function) (λ κs. (array-vals vals, (uint-vals w64, tt)))
       (λ κs. (array-tells T.the-row vals (LL.tells T.the-type T′.the-laws) mostCoordinates, (uint-tells w64, tt)))
       (λ κs qs bounds a g are. needs 𝓤 (a .1 .0 < mostCoordinates) _
-          (λ within. walk 𝓤 H A W at-mem run (a .0) (a .1 .0) (are .0) (are .1 .0 .1) within C Λ fm known))
+      (λ within. walk 𝓤 H A W at-mem run (a .0) (a .1 .0) (are .0) (are .1 .0 .1) within C Λ fm known))
 
 meets : {M : Type 1} (𝓤 : URA M) (H : Heap 𝓤) (A : Atoms 𝓤) (W : Given 𝓤 H A) (at-mem : Memory → SProp 𝓤) (run : Routine → Fun 𝓤) (𝓣 : Tables 𝓤 H)
     → Triple 𝓤 (𝓣 .C #cauchy·break-at) (Callee 𝓤 H A at-mem run)

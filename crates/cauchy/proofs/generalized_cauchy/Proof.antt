@@ -24,8 +24,7 @@ segment-from-requires c κs =
     let a = c .before .before .before .before in
     let f = a .before .before .before in
     let s = f .before .before .before in
-    let l = c .before .loop .inv in
-    (
+    let l = c .before .loop .inv in (
       rw (l .1 ∙ a .area .given) (s .pre .0),
       prepared-kept _ (scratch-trans (a .before .begin-path .ensures .kept) (l .0 .kept) .high) (s .pre .1),
       f .find-breaks .ensures .listed,

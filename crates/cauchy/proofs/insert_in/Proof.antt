@@ -124,17 +124,17 @@ module _ {M : Type 1} (𝓤 : URA M) (H : Heap 𝓤) (A : Atoms 𝓤) (W : Given
 
   exits : (zs : List BreakTime) (len : length zs ≡ length ys) → zs ≡ sift n ys v
       → ent 𝓤 (⋆ 𝓤 H A
-          (‵ (fobs γ (codedHoleys T.the-row .code (heres T.the-row zs))) ∷ ‵ (fbor κ (Held T.the-row (length zs) b o γ)) ∷ ‵ (flft κ q) ∷ ‵ rest-owned ∷ []))
+      (‵ (fobs γ (codedHoleys T.the-row .code (heres T.the-row zs))) ∷ ‵ (fbor κ (Held T.the-row (length zs) b o γ)) ∷ ‵ (flft κ q) ∷ ‵ rest-owned ∷ []))
       (Post vunit)
   exits zs len e =
       qed W (‵ (fobs γ (codedHoleys T.the-row .code (heres T.the-row zs))) ∷ ‵ (fbor κ (Held T.the-row (length zs) b o γ)) ∷ ‵ (flft κ q) ∷ ‵ rest-owned ∷ []) ∵
       suffices ! _ (ends-at 𝓤 H A this.ended stayed (this.clauses 𝓤 H A at-mem run) W (((κ, tt), (q, tt), tt, x, at), tt) vunit tt (zs, (tt, (tt, tt)))
-          (len, (tt, (tt, tt)))) $
+      (len, (tt, (tt, tt)))) $
       says ! e $
       nothing ! $ move ! (3 ∷ 0 ∷ []) $ join ! $
       frame ! $ fjoin ! $
       pureI ! (at-slice T.the-row (record { ptr = (b, o); name = γ; now = zs }) (at .0)) (tt, (tt, tt))
-          (ap (λ (m : ℕ). sliceVal (b, o) m ∷ []) (sym len), subst (Room T.the-row) (sym len) gn) $
+      (ap (λ (m : ℕ). sliceVal (b, o) m ∷ []) (sym len), subst (Room T.the-row) (sym len) gn) $
       fjoin ! $ fjoin ! $ frame ! $
       feqI ! (List Val) (vunit ∷ []) (vunit ∷ []) refl $ done !
 
@@ -162,7 +162,7 @@ module _ {M : Type 1} (𝓤 : URA M) (H : Heap 𝓤) (A : Atoms 𝓤) (W : Given
 
   goes-callee : (p : BreakTime)
       → ent 𝓤 (sep 𝓤 (sem 𝓤 H A ftrue) (sem 𝓤 H A (owns (T.the-row ∷ T.the-row ∷ []) (p, (v, tt)) (val p ∷ [], (val v ∷ [], tt)))))
-          (Callee 𝓤 H A at-mem run .pre (to-callee p))
+      (Callee 𝓤 H A at-mem run .pre (to-callee p))
   goes-callee p = qed W (‵ ftrue ∷ ‵ (owns (T.the-row ∷ T.the-row ∷ []) (p, (v, tt)) (val p ∷ [], (val v ∷ [], tt))) ∷ []) ∵ join ! $ frame ! $ done !
 
   module _ (𝓣 : Tables 𝓤 H) (known : Triple 𝓤 (𝓣 .C #cauchy·not-later) (Callee 𝓤 H A at-mem run)) (l₀ l₁ l₂ l₃ l₄ l₅ l₆ l₇ l₈ l₉ l₁₀ l₁₁ l₁₂ l₁₃ l₁₄ : ℕ) where
@@ -195,16 +195,16 @@ module _ {M : Type 1} (𝓤 : URA M) (H : Heap 𝓤) (A : Atoms 𝓤) (W : Given
     ends : (s : State) → set (s .1) (s .0) v ≡ sift n ys v → Sq W (At s) (runs C Λ En pieces.t-3 (atRet En Post))
     ends s e =
         assigns ! (bin ! (load ! (from ! (stop !)) (look ! 25 refl)) (lit ! tt) (scaled-fits (s .0) (length ys) 16 (in-ys s) (gn .1))) (from ! (stop !))
-            (init ! 7 refl (tt, scaled-fits (s .0) (length ys) 16 (in-ys s) (gn .1))) $
+        (init ! 7 refl (tt, scaled-fits (s .0) (length ys) 16 (in-ys s) (gn .1))) $
         assigns ! (bin ! (load ! (from ! (fld ! refl (stop !))) (look-in ! 31 (sub ! 0 refl (whole !)))) (load ! (from ! (stop !)) (look ! 7 refl)) tt)
-            (from ! (stop !)) (init ! 5 refl (tt, tt)) $
+        (from ! (stop !)) (init ! 5 refl (tt, tt)) $
         rewrite ! 5 (λ (p : ℕ). ‵ (fat fullShare tyPtr l₁₄ 0 (vptr b p))) (sym (place-is 16 o (s .0))) refl $
         elem-out ! T.the-row (Is T.the-row) (shows 𝓤 H A T.the-row) vals (LL.tells T.the-type T′.the-laws) fullShare (s .1) (s .0) noBreakTime b o
-            (in-zs s) (λ _.
+        (in-zs s) (λ _.
         use1 W (‵ (fat fullShare T′.mir b (place 16 o (s .0)) (val (getD (s .1) (s .0) noBreakTime))))
-            (W .laws .raw-at fullShare T′.mir b (place 16 o (s .0)) (val (getD (s .1) (s .0) noBreakTime))) $
+        (W .laws .raw-at fullShare T′.mir b (place 16 o (s .0)) (val (getD (s .1) (s .0) noBreakTime))) $
         assigns ! (of-opd ! (load ! (from ! (stop !)) (look ! 29 refl))) (from ! (hop ! (look ! 7 refl) (stop !)))
-            (store ! 0 refl (LL.lawful T.the-type T′.the-laws 𝓤 H A W .typed v _ gv .0)) $
+        (store ! 0 refl (LL.lawful T.the-type T′.the-laws 𝓤 H A W .typed v _ gv .0)) $
         use1 W (‵ (cellAt fullShare (T.the-row .mir) (val (v) ∷ []) b (place 16 o (s .0)))) (W .laws .at-raw fullShare T′.mir b (place 16 o (s .0)) (val (v))) $
         move ! (1 ∷ []) $ drop ! $ owned ! T.the-row (Is T.the-row) (LL.makes T.the-type T′.the-plain 𝓤 H A) v _ gv $ move ! (1 ∷ 0 ∷ []) $
         elem-put ! T.the-row fullShare (s .1) (s .0) v (val v ∷ []) b o (in-zs s) $
@@ -225,33 +225,33 @@ module _ {M : Type 1} (𝓤 : URA M) (H : Heap 𝓤) (A : Atoms 𝓤) (W : Given
         first ! $ branches ! (load ! (from ! (stop !)) (look ! 19 refl))
         (λ less. skips ! $ exec ! C Λ En after-test (anyQ (Turned s)) $
         assigns ! (bin ! (load ! (from ! (stop !)) (look ! 25 refl)) (lit ! tt) (above less)) (from ! (stop !))
-            (init ! 23 refl (tt, record { fits = j-fits less })) $
+        (init ! 23 refl (tt, record { fits = j-fits less })) $
         assigns ! (bin ! (load ! (from ! (stop !)) (look ! 23 refl)) (lit ! tt) (scaled-fits (s .0 - 1) (length ys) 16 (j-in less) (gn .1))) (from ! (stop !))
-            (init ! 17 refl (tt, scaled-fits (s .0 - 1) (length ys) 16 (j-in less) (gn .1))) $
+        (init ! 17 refl (tt, scaled-fits (s .0 - 1) (length ys) 16 (j-in less) (gn .1))) $
         assigns ! (bin ! (load ! (from ! (fld ! refl (stop !))) (look-in ! 31 (sub ! 0 refl (whole !)))) (load ! (from ! (stop !)) (look ! 17 refl)) tt)
-            (from ! (stop !)) (init ! 15 refl (tt, tt)) $
+        (from ! (stop !)) (init ! 15 refl (tt, tt)) $
         rewrite ! 15 (λ (p : ℕ). ‵ (fat fullShare tyPtr l₉ 0 (vptr b p))) (sym (place-is 16 o (s .0 - 1))) refl $
         -- the entry before k is copied out
         elem-out ! T.the-row (Is T.the-row) (shows 𝓤 H A T.the-row) vals (LL.tells T.the-type T′.the-laws) fullShare (s .1) (s .0 - 1) noBreakTime b o
-            (j-in-zs less) (λ g.
+        (j-in-zs less) (λ g.
         use1 W (‵ (fat fullShare T′.mir b (place 16 o (s .0 - 1)) (val (getD (s .1) (s .0 - 1) noBreakTime))))
-            (W .laws .raw-at fullShare T′.mir b (place 16 o (s .0 - 1)) (val (getD (s .1) (s .0 - 1) noBreakTime))) $
+        (W .laws .raw-at fullShare T′.mir b (place 16 o (s .0 - 1)) (val (getD (s .1) (s .0 - 1) noBreakTime))) $
         assigns ! (of-opd ! (load ! (from ! (hop ! (look ! 17 refl) (stop !))) (look ! 0 refl))) (from ! (stop !))
-            (init ! 15 refl (LL.lawful T.the-type T′.the-laws 𝓤 H A W .typed elem _ g .0)) $
+        (init ! 15 refl (LL.lawful T.the-type T′.the-laws 𝓤 H A W .typed elem _ g .0)) $
         use1 W (‵ (cellAt fullShare (T.the-row .mir) (val (getD (s .1) (s .0 - 1) noBreakTime) ∷ []) b (place 16 o (s .0 - 1))))
-            (W .laws .at-raw fullShare T′.mir b (place 16 o (s .0 - 1)) (val (getD (s .1) (s .0 - 1) noBreakTime))) $
+        (W .laws .at-raw fullShare T′.mir b (place 16 o (s .0 - 1)) (val (getD (s .1) (s .0 - 1) noBreakTime))) $
         elem-back ! T.the-row fullShare (s .1) (s .0 - 1) noBreakTime (val elem ∷ []) b o (j-in-zs less) $
         assigns ! (of-opd ! (load ! (from ! (stop !)) (look ! 13 refl))) (from ! (stop !))
-            (init ! 21 refl (LL.lawful T.the-type T′.the-laws 𝓤 H A W .typed elem _ g .0)) $
+        (init ! 21 refl (LL.lawful T.the-type T′.the-laws 𝓤 H A W .typed elem _ g .0)) $
         -- it is asked whether the entry is not later than t
         nothing ! $ owned ! T.the-row (Is T.the-row) (LL.makes T.the-type T′.the-plain 𝓤 H A) v _ gv $ fjoin ! $
         owned ! T.the-row (Is T.the-row) (LL.makes T.the-type T′.the-plain 𝓤 H A) elem _ g $ fjoin ! $ nothing ! $
         use2 W (raw (Callee 𝓤 H A at-mem run .pre (to-callee elem))) (goes-callee elem) $
         calls-at ! (fmOf 𝓤 H (W .laws) 𝓣) (Callee 𝓤 H A at-mem run) known (to-callee elem)
-            (and-then ! (load ! (from ! (stop !)) (look ! 22 refl)) (and-then ! (load ! (from ! (stop !)) (look ! 28 refl)) (no-more !))) (λ w.
+        (and-then ! (load ! (from ! (stop !)) (look ! 22 refl)) (and-then ! (load ! (from ! (stop !)) (look ! 28 refl)) (no-more !))) (λ w.
         use1 W (later (some
-            (λ (r : Bool). (‵ ftrue ⊛ ‵ (bool .own r (w ∷ []))) ⊛ raw (ensured 𝓤 H A callee.ended (callee.clauses 𝓤 H A at-mem run) tt (elem, (v, tt)) tt r))))
-            (id⊢ 𝓤 _) $
+        (λ (r : Bool). (‵ ftrue ⊛ ‵ (bool .own r (w ∷ []))) ⊛ raw (ensured 𝓤 H A callee.ended (callee.clauses 𝓤 H A at-mem run) tt (elem, (v, tt)) tt r))))
+        (id⊢ 𝓤 _) $
         await ! tt $ pick ! (λ r.
         split ! $ move ! (1 ∷ []) $ use1 W (raw (fact 𝓤 (r ≡ totalLe (elem .time) (v .time)))) (told 𝓤 H A at-mem run elem v r) $
         heard ! (r ≡ totalLe (elem .time) (v .time)) (λ e. split ! $ drop ! $
@@ -264,19 +264,19 @@ module _ {M : Type 1} (𝓤 : URA M) (H : Heap 𝓤) (A : Atoms 𝓤) (W : Given
         ends s (sym (sift-rests (s .0) (s .1) v (above less) (holds (totalLe (elem .time) (v .time)) le)) ∙ s .4))
         (λ nle. skips ! $ exec ! C Λ En after-break (anyQ (Turned s)) $
         assigns ! (bin ! (load ! (from ! (stop !)) (look ! 25 refl)) (lit ! tt) (scaled-fits (s .0) (length ys) 16 (in-ys s) (gn .1))) (from ! (stop !))
-            (store ! 17 refl (tt, scaled-fits (s .0) (length ys) 16 (in-ys s) (gn .1))) $
+        (store ! 17 refl (tt, scaled-fits (s .0) (length ys) 16 (in-ys s) (gn .1))) $
         assigns ! (bin ! (load ! (from ! (fld ! refl (stop !))) (look-in ! 31 (sub ! 0 refl (whole !)))) (load ! (from ! (stop !)) (look ! 17 refl)) tt)
-            (from ! (stop !)) (init ! 9 refl (tt, tt)) $
+        (from ! (stop !)) (init ! 9 refl (tt, tt)) $
         rewrite ! 9 (λ (p : ℕ). ‵ (fat fullShare tyPtr l₁₂ 0 (vptr b p))) (sym (place-is 16 o (s .0))) refl $
         -- and moves up to k
         elem-out ! T.the-row (Is T.the-row) (shows 𝓤 H A T.the-row) vals (LL.tells T.the-type T′.the-laws) fullShare (s .1) (s .0) noBreakTime b o
-            (in-zs s) (λ _.
+        (in-zs s) (λ _.
         use1 W (‵ (fat fullShare T′.mir b (place 16 o (s .0)) (val (getD (s .1) (s .0) noBreakTime))))
-            (W .laws .raw-at fullShare T′.mir b (place 16 o (s .0)) (val (getD (s .1) (s .0) noBreakTime))) $
+        (W .laws .raw-at fullShare T′.mir b (place 16 o (s .0)) (val (getD (s .1) (s .0) noBreakTime))) $
         assigns ! (of-opd ! (load ! (from ! (stop !)) (look ! 23 refl))) (from ! (hop ! (look ! 11 refl) (stop !)))
-            (store ! 0 refl (LL.lawful T.the-type T′.the-laws 𝓤 H A W .typed elem _ g .0)) $
+        (store ! 0 refl (LL.lawful T.the-type T′.the-laws 𝓤 H A W .typed elem _ g .0)) $
         use1 W (‵ (cellAt fullShare (T.the-row .mir) (val (elem) ∷ []) b (place 16 o (s .0))))
-            (W .laws .at-raw fullShare T′.mir b (place 16 o (s .0)) (val (elem))) $
+        (W .laws .at-raw fullShare T′.mir b (place 16 o (s .0)) (val (elem))) $
         move ! (1 ∷ []) $ drop ! $ owned ! T.the-row (Is T.the-row) (LL.makes T.the-type T′.the-plain 𝓤 H A) elem _ g $ move ! (1 ∷ 0 ∷ []) $
         elem-put ! T.the-row fullShare (s .1) (s .0) elem (val elem ∷ []) b o (in-zs s) $
         assigns-last ! (of-opd ! (load ! (from ! (stop !)) (look ! 23 refl))) (from ! (stop !)) (store ! 25 refl (tt, record { fits = j-fits less })) $
@@ -284,7 +284,7 @@ module _ {M : Type 1} (𝓤 : URA M) (H : Heap 𝓤) (A : Atoms 𝓤) (W : Given
         again ! Nearer At s (next less nle) (nearer less))))))))
         )
         (λ over. jumps ! $ forget ! 19 refl $ exec ! C Λ En pieces.t-3 (atRet En Post) $
-            ends s (sym (sift-first (s .0) (s .1) v (nltb→le 0 (s .0) over)) ∙ s .4))
+        ends s (sym (sift-first (s .0) (s .1) v (nltb→le 0 (s .0) over)) ∙ s .4))
       where
         elem : BreakTime
         elem = getD (s .1) (s .0 - 1) noBreakTime
@@ -308,13 +308,17 @@ module _ {M : Type 1} (𝓤 : URA M) (H : Heap 𝓤) (A : Atoms 𝓤) (W : Given
         j-up = let h = s .2 in omega arith
 
         next : Holds (ltb 0 (s .0)) → Holds (not (totalLe (elem .time) (v .time))) → State
-        next less nle =
-            (s .0 - 1, set (s .1) (s .0) elem, j-up, length-set (s .1) (s .0) elem ∙ s .3,
-                sym (sift-moves (s .0) (s .1) v (above less) (fails (totalLe (elem .time) (v .time)) nle)) ∙ s .4)
+        next less nle = (
+          s .0 - 1,
+          set (s .1) (s .0) elem,
+          j-up,
+          length-set (s .1) (s .0) elem ∙ s .3,
+          sym (sift-moves (s .0) (s .1) v (above less) (fails (totalLe (elem .time) (v .time)) nle)) ∙ s .4,
+        )
 
   walk : (𝓣 : Tables 𝓤 H) → Triple 𝓤 (𝓣 .C #cauchy·not-later) (Callee 𝓤 H A at-mem run)
       → ent 𝓤 (onEntry 𝓤 H A this.signature (κ, tt) (q, tt) x at)
-          (WpFn 𝓤 H (𝓣 .C) (𝓣 .Λ) code.function (sliceVal (b, o) (length ys) ∷ vint w64 n ∷ val v ∷ []) Post)
+      (WpFn 𝓤 H (𝓣 .C) (𝓣 .Λ) code.function (sliceVal (b, o) (length ys) ∷ vint w64 n ∷ val v ∷ []) Post)
   walk 𝓣 known =
       qed W ((‵ (flft κ q) ⊛ ‵ ftrue) ∷ ‵ (owns (MutSlice (named 0) κ T.the-row ∷ usize ∷ T.the-row ∷ []) x at) ∷ []) ∵
       enter ! (𝓣 .C) (𝓣 .Λ) code.function (sliceVal (b, o) (length ys) ∷ vint w64 n ∷ val v ∷ []) _ $
@@ -326,10 +330,10 @@ module _ {M : Type 1} (𝓤 : URA M) (H : Heap 𝓤) (A : Atoms 𝓤) (W : Given
       move ! (31 ∷ []) $ fsplit ! $ fsplit ! $ move ! (1 ∷ []) $ fsplit ! $ move ! (34 ∷ []) $ split ! $ move ! (2 ∷ 3 ∷ 0 ∷ []) $
       opens-slice ! tt T.the-row ys b o $
       keep ! (0 ∷ 1 ∷ 2 ∷ 3 ∷ 6 ∷ 7 ∷ 8 ∷ 9 ∷ 10 ∷ 11 ∷ 12 ∷ 13 ∷ 14 ∷ 15 ∷ 16 ∷ 17 ∷ 18 ∷ 19 ∷ 20 ∷ 21 ∷ 22 ∷ 23 ∷ 24 ∷ 25 ∷ 26 ∷ 27 ∷ 28 ∷ 29 ∷ 30 ∷ 31 ∷ 32
-          ∷ 33 ∷ 34 ∷ 35 ∷ 36 ∷ []) $
+      ∷ 33 ∷ 34 ∷ 35 ∷ 36 ∷ []) $
       first ! $ blocks ! $
       loops ! 𝓣 Nearer Nearer-wf (At 𝓣 known l₀ l₁ l₂ l₃ l₄ l₅ l₆ l₇ l₈ l₉ l₁₀ l₁₁ l₁₂ l₁₃ l₁₄)
-          (turns 𝓣 known l₀ l₁ l₂ l₃ l₄ l₅ l₆ l₇ l₈ l₉ l₁₀ l₁₁ l₁₂ l₁₃ l₁₄) (n, ys, le-refl n, refl, refl))))))))))))))))
+      (turns 𝓣 known l₀ l₁ l₂ l₃ l₄ l₅ l₆ l₇ l₈ l₉ l₁₀ l₁₁ l₁₂ l₁₃ l₁₄) (n, ys, le-refl n, refl, refl))))))))))))))))
 
 module _ {M : Type 1} (𝓤 : URA M) (H : Heap 𝓤) (A : Atoms 𝓤) (W : Given 𝓤 H A) (at-mem : Memory → SProp 𝓤) (run : Routine → Fun 𝓤) where
   walks : (𝓣 : Tables 𝓤 H) → Triple 𝓤 (𝓣 .C #cauchy·not-later) (Callee 𝓤 H A at-mem run)
@@ -345,8 +349,10 @@ meets : {M : Type 1} (𝓤 : URA M) (H : Heap 𝓤) (A : Atoms 𝓤) → Given �
     → Triple 𝓤 (𝓣 .C #cauchy·not-later) (Callee 𝓤 H A at-mem run)
     → Meets 𝓤 H A this.signature (WpFn 𝓤 H (𝓣 .C) (𝓣 .Λ) code.function) (this.spec 𝓤 H A at-mem run)
 meets 𝓤 H A W at-mem run 𝓣 known =
-    walk-meets 𝓤 H A this.ended stayed W (goes-slice 𝓤 H A W 1 0 tt (plain (λ _. T.the-row)),
-        (goes-none 𝓤 H A W 1 (λ _. usize) yes (λ κs x f. refl), (goes-none 𝓤 H A W 1 (λ _. T.the-row) yes (λ κs x f. refl), tt)))
+    walk-meets 𝓤 H A this.ended stayed W (
+      goes-slice 𝓤 H A W 1 0 tt (plain (λ _. T.the-row)),
+      (goes-none 𝓤 H A W 1 (λ _. usize) yes (λ κs x f. refl), (goes-none 𝓤 H A W 1 (λ _. T.the-row) yes (λ κs x f. refl), tt)),
+    )
     (this.clauses 𝓤 H A at-mem run) (WpFn 𝓤 H (𝓣 .C) (𝓣 .Λ) code.function) (WpFn-mono 𝓤 H (W .laws) 𝓣 code.function) (walks 𝓤 H A W at-mem run 𝓣 known)
 
 pub insert-in-spec : {M : Type 1} → stated.statement M

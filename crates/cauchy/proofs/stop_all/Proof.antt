@@ -29,16 +29,19 @@ stop-requires c κs =
     (omega (arith, l .loop .inv .1), rw (e .entry .ensures) (s .pre .1 .within _ (e .before .if1 .taken)), omega (arith, s .pre .1 .few))
 
 loop-less : tie.Need-loop-less Inv-loop μ-loop
-loop-less c = omega (arith, stopped-event (c .before .before .stop .ensures), c .before .before .before .before .before .before .before .if1 .taken)
+loop-less c =
+    let t = c .before .before .before .before .before .before .before in
+    omega (arith, stopped-event (c .before .before .stop .ensures), t .if1 .taken)
 
 loop-again : tie.Need-loop-again Inv-loop μ-loop
 loop-again c =
     let t = c .before .before .before .before in
     let k = t .before .before .before in
-    let l = k .before .before .before in
-    (stopping-more (l .before .before .before .pre .1) (l .loop .inv .0) (k .if1 .taken) (t .before .before .entry .ensures) (t .if2 .taken)
-        (c .before .before .stop .ensures),
-        c .before .area .given ∙ l .loop .inv .1)
+    let l = k .before .before .before in (
+      stopping-more (l .before .before .before .pre .1) (l .loop .inv .0) (k .if1 .taken) (t .before .before .entry .ensures) (t .if2 .taken)
+          (c .before .before .stop .ensures),
+      c .before .area .given ∙ l .loop .inv .1,
+    )
 
 returns : tie.Need-returns Inv-loop μ-loop
 returns c =
