@@ -92,8 +92,7 @@ fn residual(
     order: &[usize; 32],
 ) -> bool
     requires { ⌜ Sound h (length (now area)) × Prepared h theta found (now rows) (now multipliers) (now order) (view (now area) (h .n)) ⌝ }
-    ensures { λ r. ⌜ Makes ProductD (residualAt h theta (view (now (area .entry)) (h .n))) (view (now (area .entry)) (h .n)) r
-        (view (now (area .exit)) (h .n)) ⌝ }
+    ensures { λ r. ⌜ (let v = view (now (area .entry)) (h .n) in Makes ProductD (residualAt h theta v) v r (view (now (area .exit)) (h .n))) ⌝ }
 {
     area::difference(area, h.n, area::DISPLACEMENT, area::CAUCHY, area::X);
     let found = compact::product(
