@@ -64,7 +64,8 @@ put-gradient l es ws at k e q h =
 
 -- the log up to the entry's end
 pub logged : (at : ℕ) (l ws : List ℕ) → at ≤ length l → take (at + length ws) (written at ws l) ≡ take at l ++ ws
-logged at l ws h = take-at (take at l ++ ws) (drop (at + length ws) l) (at + length ws) (length-append (take at l) ws ∙ ap (λ (k : ℕ). k + length ws) (length-take-le at l h))
+logged at l ws h =
+    take-at (take at l ++ ws) (drop (at + length ws) l) (at + length ws) (length-append (take at l) ws ∙ ap (λ (k : ℕ). k + length ws) (length-take-le at l h))
 
 pub written-length : (at : ℕ) (ws l : List ℕ) → at + length ws ≤ length l → length (written at ws l) ≡ length l
 written-length at ws l h = ap length (sym (sets-eq ws l at h)) ∙ length-sets l at ws

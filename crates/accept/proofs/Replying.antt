@@ -72,7 +72,9 @@ length-passed n R.Stop ws e k = absurd (omega arith)
 length-passed n R.Failure ws e k = absurd (omega arith)
 
 pub due-long : (t : Fit) (a : List Float) (r : Reply) (ws : List ℕ) → checkDue (machineOf t a) (replied r ws) ≡ none → entryKind r ≡ 2 → length ws ≡ t .shape .n
-due-long t a r ws e = length-passed (t .shape .n) r ws (both-passed (when (not (takes (machineOf t a) (replied r ws))) (refuse 13 0 0)) (checkLength (t .shape .n) (replied r ws)) e .1)
+due-long t a r ws e =
+    length-passed (t .shape .n) r ws
+    (both-passed (when (not (takes (machineOf t a) (replied r ws))) (refuse 13 0 0)) (checkLength (t .shape .n) (replied r ws)) e .1)
 
 -- ---- the size of an entry
 
@@ -180,7 +182,8 @@ said-answer t v R.Failure ws h = refl
 
 -- t with the area a, the reply's words stored (b), advanced (f with d), marked (e) and counted
 pub advances : (t : Fit) (a b : List Float) (r : Reply) (ws : List ℕ) (f : Fit) (d e : List Float) (k : ℕ)
-    → Sound (t .shape) (length a) → Within (t .phase) (t .shape .n) → checkDue (machineOf t a) (replied r ws) ≡ none → view b (t .shape .n) ≡ stored r ws (view a (t .shape .n))
+    → Sound (t .shape) (length a) → Within (t .phase) (t .shape .n) → checkDue (machineOf t a) (replied r ws) ≡ none
+    → view b (t .shape .n) ≡ stored r ws (view a (t .shape .n))
     → Steps (advanced r) t b f d → length d ≡ length a → Marks (f .shape) d e → k ≡ length (entryWords (replied r ws))
     → Advances (replied r ws) t a (withLog (f .extra .entries + 1) (f .extra .words + k) f) e
 advances t a b r ws f d e k s i c g h z m l =
@@ -201,7 +204,8 @@ advances t a b r ws f d e k s i c g h z m l =
       settled = h .kept .settled;
       setup =
           marked-setup (f .options) f d e m
-          ∙ setup-same (f .options) (view a (t .shape .n)) (view d (f .shape .n)) x0 (ap (λ (k : Terms). k .bounds .lower) terms) (ap (λ (k : Terms). k .bounds .upper) terms)
+          ∙ setup-same (f .options) (view a (t .shape .n)) (view d (f .shape .n)) x0 (ap (λ (k : Terms). k .bounds .lower) terms)
+          (ap (λ (k : Terms). k .bounds .upper) terms)
           ∙ ap (λ (o : Options). setupAt o (view a (t .shape .n))) (h .kept .options);
       saved = saved-trans saved marked;
       mark = m .mark;

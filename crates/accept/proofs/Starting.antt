@@ -25,7 +25,8 @@ use Rattle.held.specs.Words.{words, Held}
 
 -- what the checks of a setup leave to the opening
 pub start-room : (o : Options) (x0 l u : List Float) (size k : ℕ)
-    → (validate (setupIn o x0 l u) then checkArea (record { area = size; log = k }) (setupIn o x0 l u)) ≡ none → Room o (length x0) size × Fits o (length x0) l u
+    → (validate (setupIn o x0 l u) then checkArea (record { area = size; log = k }) (setupIn o x0 l u)) ≡ none
+    → Room o (length x0) size × Fits o (length x0) l u
 start-room o x0 l u size k e =
     let s = setupIn o x0 l u in
     let p = both-passed (validate s) (checkArea (record { area = size; log = k }) s) e in

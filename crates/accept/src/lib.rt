@@ -40,7 +40,8 @@ fn check_area(o: Options, n: usize, size: usize) -> Checked
 
 // What is wrong with a setup, and then with the area.
 pub fn check_start(o: Options, x0: &[f64], lower: &[f64], upper: &[f64], size: usize) -> Checked
-    ensures { λ r. ⌜ (let s = setupIn o (now (x0 .entry)) (now (lower .entry)) (now (upper .entry)) in (l : ℕ) → checkOf r ≡ (validate s then checkArea (record { area = size; log = l }) s)) ⌝ }
+    ensures { λ r. ⌜ (let s = setupIn o (now (x0 .entry)) (now (lower .entry)) (now (upper .entry)) in
+        (l : ℕ) → checkOf r ≡ (validate s then checkArea (record { area = size; log = l }) s)) ⌝ }
 {
     let rows = problem::validate(o, x0, lower, upper);
     let Checked::Passed = rows else {
@@ -52,7 +53,8 @@ pub fn check_start(o: Options, x0: &[f64], lower: &[f64], upper: &[f64], size: u
 // The fit of a setup that passed, at its first question: no entry is in the log.
 pub fn opened(o: Options, area: &mut [f64], x0: &[f64], lower: &[f64], upper: &[f64]) -> Fit
     requires { ⌜ (let s = setupIn o (now x0) (now lower) (now upper) in (validate s then checkArea (record { area = length (now area); log = 0 }) s) ≡ none) ⌝ }
-    ensures { λ f. ⌜ ((l : List ℕ) → Held (words f (now (area .exit)) l) (openedBook (setupIn o (now (x0 .entry)) (now (lower .entry)) (now (upper .entry))))) ⌝ }
+    ensures { λ f. ⌜ ((l : List ℕ)
+        → Held (words f (now (area .exit)) l) (openedBook (setupIn o (now (x0 .entry)) (now (lower .entry)) (now (upper .entry))))) ⌝ }
 {
     let f = opening::begin(o, area, x0, lower, upper);
     let h = f.shape;
@@ -176,7 +178,8 @@ fn advanced(t: Fit, area: &mut [f64], r: Reply, gradient: &[u64]) -> Fit
 // A reply that passed, into the log and into the fit.
 pub fn keep(t: Fit, area: &mut [f64], log: &mut [u64], r: Reply, gradient: &[u64]) -> Fit
     requires { ⌜ (isReady t (length (now area)) ≡ true) × (checkSaid t (now area) (length (now log)) (replied r (now gradient)) ≡ none) ⌝ }
-    ensures { λ f. ⌜ Advances (replied r (now (gradient .entry))) t (now (area .entry)) f (now (area .exit)) × (now (log .exit) ≡ written (t .extra .words) (entryWords (replied r (now (gradient .entry)))) (now (log .entry))) ⌝ }
+    ensures { λ f. ⌜ Advances (replied r (now (gradient .entry))) t (now (area .entry)) f (now (area .exit))
+        × (now (log .exit) ≡ written (t .extra .words) (entryWords (replied r (now (gradient .entry)))) (now (log .entry))) ⌝ }
 {
     log_entry(log, t.extra.words, r, gradient);
     advanced(t, area, r, gradient)

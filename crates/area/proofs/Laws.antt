@@ -404,4 +404,21 @@ saved-upd {b = b} p v l n r = record {
 pub saved-scratch : {a b : Vecs} → ScratchOnly a b → Saved a b
 saved-scratch r = record { x0 = r .low X0 (omega arith); free = r .free }
 
-pub ruleset laws = (row-more, row-done, row-stored, row-copied, made-more, made-done, changed-more, changed-done, looped-more, looped-done, fold-more, fold-done, turned-done, scratch-refl, scratch-upd, needs)
+pub ruleset laws = (
+  row-more,
+  row-done,
+  row-stored,
+  row-copied,
+  made-more,
+  made-done,
+  changed-more,
+  changed-done,
+  looped-more,
+  looped-done,
+  fold-more,
+  fold-done,
+  turned-done,
+  scratch-refl,
+  scratch-upd,
+  needs,
+)

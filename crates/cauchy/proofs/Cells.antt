@@ -53,10 +53,19 @@ abbrev pub array : Ty
 array = tyArray T′.mir mostCoordinates
 
 module _ {M : Type 1} (𝓤 : URA M) (H : Heap 𝓤) (A : Atoms 𝓤) (W : Given 𝓤 H A) where
-  pub packs : (xs : List BreakTime) (l : ℕ) → ent 𝓤 (sep 𝓤 (sem 𝓤 H A (cellAt fullShare (R .mir) (aval xs ∷ []) l 0)) (sem 𝓤 H A (R .own xs (aval xs ∷ [])))) (sem 𝓤 H A (partAt R fullShare xs l 0))
+  pub packs : (xs : List BreakTime) (l : ℕ)
+      → ent 𝓤 (sep 𝓤 (sem 𝓤 H A (cellAt fullShare (R .mir) (aval xs ∷ []) l 0)) (sem 𝓤 H A (R .own xs (aval xs ∷ [])))) (sem 𝓤 H A (partAt R fullShare xs l 0))
   unfolding partOf
-  packs xs l = qed W (‵ (cellAt fullShare (R .mir) (aval xs ∷ []) l 0) ∷ ‵ (R .own xs (aval xs ∷ [])) ∷ []) ∵ fjoin ! $ fpack ! (List Val) (λ us. fsep (cellAt fullShare (R .mir) us l 0) (R .own xs us)) (aval xs ∷ []) $ done !
+  packs xs l =
+      qed W (‵ (cellAt fullShare (R .mir) (aval xs ∷ []) l 0) ∷ ‵ (R .own xs (aval xs ∷ [])) ∷ []) ∵ fjoin ! $
+      fpack ! (List Val) (λ us. fsep (cellAt fullShare (R .mir) us l 0) (R .own xs us)) (aval xs ∷ []) $ done !
 
-  pub unpacks : (xs : List BreakTime) (l : ℕ) → ent 𝓤 (sem 𝓤 H A (partAt R fullShare xs l 0)) (sem 𝓤 H A (fsep (cellAt fullShare (R .mir) (aval xs ∷ []) l 0) (R .own xs (aval xs ∷ []))))
+  pub unpacks : (xs : List BreakTime) (l : ℕ)
+      → ent 𝓤 (sem 𝓤 H A (partAt R fullShare xs l 0)) (sem 𝓤 H A (fsep (cellAt fullShare (R .mir) (aval xs ∷ []) l 0) (R .own xs (aval xs ∷ []))))
   unfolding partOf
-  unpacks xs l = qed W (‵ (partAt R fullShare xs l 0) ∷ []) ∵ fpick ! (λ vs. fsplit ! $ spelt ! R (Is R) (shows 𝓤 H A R) (array-vals vals) (array-tells T.the-row vals (LL.tells T.the-type T′.the-laws) mostCoordinates) fullShare xs vs l 0 $ fjoin ! $ done !)
+  unpacks xs l =
+      qed W (‵ (partAt R fullShare xs l 0) ∷ []) ∵
+      fpick ! (λ vs. fsplit ! $
+      spelt ! R (Is R) (shows 𝓤 H A R) (array-vals vals) (array-tells T.the-row vals (LL.tells T.the-type T′.the-laws) mostCoordinates)
+      fullShare xs vs l 0 $
+      fjoin ! $ done !)

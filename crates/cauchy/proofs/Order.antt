@@ -166,7 +166,8 @@ inserts {b} {t} {r} o e =
     }
 
 -- a finite time is kept, and no other
-pub keeps : {b : Breaks} {t : Float} {ok : Bool} {i : ℕ} {r : Breaks} → ok ≡ finite t → ok ≡ true → Inserted b (record { time = t; coordinate = i }) r → Kept b t i r
+pub keeps : {b : Breaks} {t : Float} {ok : Bool} {i : ℕ} {r : Breaks} → ok ≡ finite t → ok ≡ true → Inserted b (record { time = t; coordinate = i }) r
+    → Kept b t i r
 keeps {b} {t} e f r = record { long = r .long; count = omega (arith, r .count); is = rw (sym e ∙ f) (r .is) }
 
 pub drops : {b : Breaks} {t : Float} {ok : Bool} {i : ℕ} → Ordered b → ok ≡ finite t → ok ≡ false → Kept b t i b

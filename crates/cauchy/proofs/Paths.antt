@@ -18,7 +18,8 @@ use Rattle.area.proofs.Laws.{scratch-refl, scratch-trans, scratch-upd}
 use Rattle.cauchy.specs.declared.BreakTime.{BreakTime}
 use Rattle.cauchy.specs.declared.Breaks.{Breaks}
 use Rattle.cauchy.specs.declared.Path.{Path}
-use Rattle.cauchy.specs.State.{boundsOf, noBreakTime, breakOf, breakList, Listed, velocityIn, boundIn, pointIn, pathOf, travelledOf, Travels, Begins, PathPoint}
+use Rattle.cauchy.specs.State.{boundsOf, noBreakTime, breakOf, breakList, Listed, velocityIn, boundIn}
+use Rattle.cauchy.specs.State.{pointIn, pathOf, travelledOf, Travels, Begins, PathPoint}
 use Rattle.cauchy.proofs.Order.{words-view, breaks-length, break-get}
 
 -- ---- what stays
@@ -33,7 +34,9 @@ pub begins : (n : ℕ) (v : Vecs) {v₁ v₂ v₃ : Vecs} {t : Float} → v₁ �
 unfolding rowwise fillOf
 begins n v d e t f = record {
   is = rw (f, t, e, d) refl;
-  kept = rw (f, e, d) (scratch-upd _ _ (omega arith) (omega arith) (scratch-upd _ _ (omega arith) (omega arith) (scratch-upd _ _ (omega arith) (omega arith) scratch-refl)));
+  kept =
+      rw (f, e, d)
+      (scratch-upd _ _ (omega arith) (omega arith) (scratch-upd _ _ (omega arith) (omega arith) (scratch-upd _ _ (omega arith) (omega arith) scratch-refl)));
 }
 
 -- ---- the point
@@ -60,7 +63,9 @@ stops a n i p {bound} {x} h b y d e f =
     let z : x ≡ word (view a n X) i = y ∙ ap (λ (g : ℕ → Float). g X) w in
     record {
       is = rw (f, e, d, c, z) refl;
-      kept = rw (f, e, d) (scratch-upd _ _ (omega arith) (omega arith) (scratch-upd _ _ (omega arith) (omega arith) (scratch-upd _ _ (omega arith) (omega arith) scratch-refl)));
+      kept =
+          rw (f, e, d) (scratch-upd _ _ (omega arith) (omega arith)
+          (scratch-upd _ _ (omega arith) (omega arith) (scratch-upd _ _ (omega arith) (omega arith) scratch-refl)));
     }
 
 -- ---- every break at a time stops its coordinate
@@ -81,7 +86,8 @@ module _ (b : Bounds) (x : List Float) (bs : List Break) (t : Float) (k : ℕ) (
 
 -- the path p with the vectors a is on its way from p₀ with a₀
 pub record Stopping (b : Breaks) (t : Float) (p₀ : Path) (a₀ : Vecs) (p : Path) (a : Vecs) : Type 0 where
-  pub is : stopAll (b .count - p .event) (boundsOf a₀) (a₀ X) (breakList b) t (pathOf p a) ≡ stopAll (b .count - p₀ .event) (boundsOf a₀) (a₀ X) (breakList b) t (pathOf p₀ a₀)
+  pub is : stopAll (b .count - p .event) (boundsOf a₀) (a₀ X) (breakList b) t (pathOf p a)
+      ≡ stopAll (b .count - p₀ .event) (boundsOf a₀) (a₀ X) (breakList b) t (pathOf p₀ a₀)
   pub kept : ScratchOnly a₀ a
 
 pub stopping-none : {b : Breaks} {t : Float} {p : Path} {a : Vecs} → Stopping b t p a p a
@@ -100,16 +106,21 @@ stopping-rest {n} {b} {t} {p₀} {a₀} {p} {a} {k} l s h e f =
     let g : getD (breakList b) (p .event) noBreak ≡ breakOf k = break-get b (p .event) h (omega (arith, l .few, l .long)) ∙ ap breakOf (sym e) in
     record { is = sym (stop-rest (boundsOf a₀) (a₀ X) (breakList b) t (b .count) (pathOf p a) h (rw g f)) ∙ s .is; kept = s .kept }
 
-pub stopping-more : {n : ℕ} {b : Breaks} {t : Float} {p₀ : Path} {a₀ : Vecs} {p : Path} {a : Vecs} {k : BreakTime} {q : Path} {c : Vecs} → Listed n b → Stopping b t p₀ a₀ p a
-    → p .event < b .count → k ≡ getD (b .list) (p .event) noBreakTime → Ieee.eq (k .time) t ≡ true → Travels (stopped (boundsOf a) (a X) (k .coordinate)) p a q c
+pub stopping-more : {n : ℕ} {b : Breaks} {t : Float} {p₀ : Path} {a₀ : Vecs} {p : Path} {a : Vecs} {k : BreakTime} {q : Path} {c : Vecs} → Listed n b
+    → Stopping b t p₀ a₀ p a
+    → p .event < b .count → k ≡ getD (b .list) (p .event) noBreakTime → Ieee.eq (k .time) t ≡ true
+    → Travels (stopped (boundsOf a) (a X) (k .coordinate)) p a q c
     → Stopping b t p₀ a₀ q c
 stopping-more {n} {b} {t} {p₀} {a₀} {p} {a} {k} {q} {c} l s h e f r =
     let g : getD (breakList b) (p .event) noBreak ≡ breakOf k = break-get b (p .event) h (omega (arith, l .few, l .long)) ∙ ap breakOf (sym e) in
     record {
       is =
           ap (λ (d : D.Path). stopAll (b .count - d .event) (boundsOf a₀) (a₀ X) (breakList b) t d) (r .is)
-          ∙ (λ i. stopAll (b .count - (p .event + 1)) (boundsOf a₀) (a₀ X) (breakList b) t (stopped (bounds-kept (s .kept) i) (s .kept .low X (omega arith) i) (k .coordinate) (pathOf p a)))
-          ∙ ap (λ (d : Break). stopAll (b .count - (p .event + 1)) (boundsOf a₀) (a₀ X) (breakList b) t (stopped (boundsOf a₀) (a₀ X) (d .coordinate) (pathOf p a))) (sym g)
+          ∙ (λ i. stopAll (b .count - (p .event + 1)) (boundsOf a₀) (a₀ X) (breakList b) t
+          (stopped (bounds-kept (s .kept) i) (s .kept .low X (omega arith) i) (k .coordinate) (pathOf p a)))
+          ∙ ap (λ (d : Break). stopAll (b .count - (p .event + 1)) (boundsOf a₀) (a₀ X) (breakList b) t
+          (stopped (boundsOf a₀) (a₀ X) (d .coordinate) (pathOf p a)))
+          (sym g)
           ∙ sym (stop-next (boundsOf a₀) (a₀ X) (breakList b) t (b .count) (pathOf p a) h (rw g f))
           ∙ s .is;
       kept = scratch-trans (s .kept) (r .kept);

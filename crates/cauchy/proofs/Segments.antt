@@ -47,7 +47,8 @@ module _ (n : ℕ) (b : Breaks) (p : Path) (next m : Float) {v : Vecs} {ok : Boo
   pub along-fails : ok ≡ finite m → not ok ≡ true → Segments (along n (boundsOf v) (v X) (breakList b) (pathOf p v) next m) v (S.Ended false) v
   along-fails e f = record { is = sym (along-none n (boundsOf v) (v X) (breakList b) (pathOf p v) next m (sym e ∙ not-true ok f)); kept = scratch-refl }
 
-  pub along-ends : {v₁ v₂ : Vecs} {r : Bool} → ok ≡ finite m → not ok ≡ false → Ieee.lt m (minus next (p .previous)) ≡ true → v₁ ≡ travelledOf n m v → PathPoint n v₁ r v₂
+  pub along-ends : {v₁ v₂ : Vecs} {r : Bool} → ok ≡ finite m → not ok ≡ false → Ieee.lt m (minus next (p .previous)) ≡ true → v₁ ≡ travelledOf n m v
+      → PathPoint n v₁ r v₂
       → Segments (along n (boundsOf v) (v X) (breakList b) (pathOf p v) next m) v (S.Ended r) v₂
   unfolding rowwise
   along-ends {v₁} {v₂} {r} e f l t q = record {
@@ -58,7 +59,8 @@ module _ (n : ℕ) (b : Breaks) (p : Path) (next m : Float) {v : Vecs} {ok : Boo
   }
 
   pub along-leads : {q : Path} {v₁ : Vecs} → ok ≡ finite m → not ok ≡ false → Ieee.lt m (minus next (p .previous)) ≡ false
-      → Travels (passed n (boundsOf v) (v X) (breakList b) next) p v q v₁ → Segments (along n (boundsOf v) (v X) (breakList b) (pathOf p v) next m) v (S.Onward q) v₁
+      → Travels (passed n (boundsOf v) (v X) (breakList b) next) p v q v₁
+      → Segments (along n (boundsOf v) (v X) (breakList b) (pathOf p v) next m) v (S.Onward q) v₁
   along-leads e f l q = record {
     is = ap D.Segment.onward (q .is) ∙ sym (along-on n (boundsOf v) (v X) (breakList b) (pathOf p v) next m (sym e ∙ not-false ok f) l);
     kept = q .kept;
@@ -86,15 +88,18 @@ module _ (n : ℕ) (b : Breaks) (p : Path) (slope curvature : Float) {v : Vecs} 
       → Segments (bySlope n (boundsOf v) (v X) (breakList b) (pathOf p v) slope curvature) v (S.Ended false) v
   slope-fails e = record { is = sym (slope-none n (boundsOf v) (v X) (breakList b) (pathOf p v) slope curvature e); kept = scratch-refl }
 
-  pub slope-ends : {r : Bool} {v₁ : Vecs} → (finite slope && finite curvature && Ieee.lt zero64 curvature) ≡ true → Ieee.le zero64 slope ≡ true → PathPoint n v r v₁
+  pub slope-ends : {r : Bool} {v₁ : Vecs} → (finite slope && finite curvature && Ieee.lt zero64 curvature) ≡ true → Ieee.le zero64 slope ≡ true
+      → PathPoint n v r v₁
       → Segments (bySlope n (boundsOf v) (v X) (breakList b) (pathOf p v) slope curvature) v (S.Ended r) v₁
   slope-ends e f q = record {
     is = ap D.Segment.ended (q .is p) ∙ sym (slope-point n (boundsOf v) (v X) (breakList b) (pathOf p v) slope curvature e f);
     kept = q .kept;
   }
 
-  pub slope-goes : {next : Float} {r : Segment} {v₁ : Vecs} → (finite slope && finite curvature && Ieee.lt zero64 curvature) ≡ true → Ieee.le zero64 slope ≡ false
-      → next ≡ getD (breakList b) (p .event) noBreak .time → Segments (along n (boundsOf v) (v X) (breakList b) (pathOf p v) next (over (Ieee.neg slope) curvature)) v r v₁
+  pub slope-goes : {next : Float} {r : Segment} {v₁ : Vecs} → (finite slope && finite curvature && Ieee.lt zero64 curvature) ≡ true
+      → Ieee.le zero64 slope ≡ false
+      → next ≡ getD (breakList b) (p .event) noBreak .time
+      → Segments (along n (boundsOf v) (v X) (breakList b) (pathOf p v) next (over (Ieee.neg slope) curvature)) v r v₁
       → Segments (bySlope n (boundsOf v) (v X) (breakList b) (pathOf p v) slope curvature) v r v₁
   slope-goes e f t q = record {
     is = q .is ∙ rw t (sym (slope-along n (boundsOf v) (v X) (breakList b) (pathOf p v) slope curvature e f));
@@ -127,10 +132,12 @@ abbrev pub segmentAt : Shape → Float → Breaks → Path → Vecs → D.Segmen
 segmentAt h theta b p v = segment (h .n) (boundsOf v) (compactOf h theta v) (v X) (v G) (breakList b) (pathOf p v)
 
 -- the products that there are, and that there are not
-made : {h : Shape} {theta : Float} {k q : ℕ} {a : Vecs} {ok : Bool} {b : Vecs} → Multiplied h theta k q a ok b → ok ≡ true → C.product (h .n) (compactOf h theta a) (a q) ≡ some (b k)
+made : {h : Shape} {theta : Float} {k q : ℕ} {a : Vecs} {ok : Bool} {b : Vecs} → Multiplied h theta k q a ok b → ok ≡ true
+    → C.product (h .n) (compactOf h theta a) (a q) ≡ some (b k)
 made {k = k} {b = b} r e = sym (r .is) ∙ ap (λ (t : Bool). given t (b k)) e
 
-missed : {h : Shape} {theta : Float} {k q : ℕ} {a : Vecs} {ok : Bool} {b : Vecs} → Multiplied h theta k q a ok b → ok ≡ false → C.product (h .n) (compactOf h theta a) (a q) ≡ none
+missed : {h : Shape} {theta : Float} {k q : ℕ} {a : Vecs} {ok : Bool} {b : Vecs} → Multiplied h theta k q a ok b → ok ≡ false
+    → C.product (h .n) (compactOf h theta a) (a q) ≡ none
 missed {k = k} {b = b} r e = sym (r .is) ∙ ap (λ (t : Bool). given t (b k)) e
 
 -- the second product is one of the vectors before the first
@@ -154,7 +161,8 @@ module _ (h : Shape) (theta : Float) (b : Breaks) (p : Path) {v : Vecs} {s : Boo
   module _ {ok₁ : Bool} {v₁ : Vecs} (moves : s ≡ false) (first : Multiplied h theta ProductD Velocity v ok₁ v₁) where
     pub segment-fails₁ : not ok₁ ≡ true → Segments (segmentAt h theta b p v) v (S.Ended false) v₁
     segment-fails₁ e = record {
-      is = sym (segment-none₁ (h .n) (boundsOf v) (compactOf h theta v) (v X) (v G) (breakList b) (pathOf p v) (sym at ∙ moves) (missed first (not-true ok₁ e)));
+      is =
+          sym (segment-none₁ (h .n) (boundsOf v) (compactOf h theta v) (v X) (v G) (breakList b) (pathOf p v) (sym at ∙ moves) (missed first (not-true ok₁ e)));
       kept = product-kept ProductD first (omega arith) (omega arith);
     }
 
@@ -215,7 +223,8 @@ walkAt h theta b a left s = walk left (h .n) (boundsOf a) (compactOf h theta a) 
 segment-kept : (h : Shape) (theta : Float) (b : Breaks) (p : Path) {a v : Vecs} → ScratchOnly a v
     → segmentAt h theta b p v ≡ segment (h .n) (boundsOf a) (compactOf h theta a) (a X) (a G) (breakList b) (pathOf p v)
 segment-kept h theta b p {a} {v} k =
-    λ i. segment (h .n) (bounds-kept k i) (compact-kept h theta a v (k .high) i) (k .low X (omega arith) i) (k .low G (omega arith) i) (breakList b) (pathOf p v)
+    λ i. segment (h .n) (bounds-kept k i) (compact-kept h theta a v (k .high) i) (k .low X (omega arith) i) (k .low G (omega arith) i) (breakList b)
+    (pathOf p v)
 
 -- the path p with the vectors v, and `left` segments more, are on their way from p₀ with a
 pub record Walking (h : Shape) (theta : Float) (b : Breaks) (left₀ : ℕ) (p₀ : Path) (a : Vecs) (left : ℕ) (p : Path) (v : Vecs) : Type 0 where
@@ -266,7 +275,8 @@ walks h theta {b} {p} {v} {a} {ok} {w} f s q = record {
   is =
       q .is
       ∙ ap (walkAt h theta b a (h .n + 1)) (segment-kept h theta b p (s .kept))
-      ∙ (λ i. walk (h .n + 1) (h .n) (bounds-kept (s .kept) i) (compact-kept h theta v a (s .kept .high) i) (s .kept .low X (omega arith) i) (s .kept .low G (omega arith) i) (f .is i)
+      ∙ (λ i. walk (h .n + 1) (h .n) (bounds-kept (s .kept) i) (compact-kept h theta v a (s .kept .high) i) (s .kept .low X (omega arith) i)
+      (s .kept .low G (omega arith) i) (f .is i)
       (segment (h .n) (boundsOf v) (compactOf h theta v) (v X) (v G) (f .is i) (s .is i)));
   kept = scratch-trans (s .kept) (q .kept);
 }

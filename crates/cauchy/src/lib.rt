@@ -12,7 +12,8 @@ ghost use Rattle.definition.specs.Geometry.{along as alongOf, bySlope, still as
 ghost use Rattle.area.specs.Area.{view, wordsAt, rowwise, firstPair, X, G, Velocity, ProductZ, Cauchy};
 ghost use Rattle.compact.specs.State.{Sound, Prepared, compactOf};
 ghost use Rattle.cauchy.specs.State.{boundsOf, noBreakTime, sift, breakList, Listed, Ordered, Inserted, Kept, Found};
-ghost use Rattle.cauchy.specs.State.{movesUpIn, movesDownIn, velocityIn, breakTimeIn, boundIn, pointIn, pathOf, travelledOf, Travels, Begins, Points, PathPoint, Segments};
+ghost use Rattle.cauchy.specs.State.{movesUpIn, movesDownIn, velocityIn, breakTimeIn, boundIn, pointIn, pathOf};
+ghost use Rattle.cauchy.specs.State.{travelledOf, Travels, Begins, Points, PathPoint, Segments};
 
 // When a coordinate meets its bound.
 pub struct BreakTime {
@@ -299,7 +300,8 @@ fn stop(area: &mut [f64], n: usize, i: usize, p: Path) -> Path
 // Every break at the time t stops its coordinate.
 fn stop_all(area: &mut [f64], n: usize, b: Breaks, t: f64, p: Path) -> Path
     requires { ⌜ (firstPair * n ≤ length (now area)) × Listed n b ⌝ }
-    ensures { λ r. ⌜ (let v = view (now (area .entry)) n in Travels (stopAll (b .count - p .event) (boundsOf v) (v X) (breakList b) t) p v r (view (now (area .exit)) n)) ⌝ }
+    ensures { λ r. ⌜ (let v = view (now (area .entry)) n in
+        Travels (stopAll (b .count - p .event) (boundsOf v) (v X) (breakList b) t) p v r (view (now (area .exit)) n)) ⌝ }
 {
     let list = b.list;
     let mut q = p;
@@ -389,7 +391,8 @@ fn still(area: &[f64], n: usize) -> bool
 // With a slope below zero and a curvature above: a minimum inside the segment, or on to its end.
 fn along(area: &mut [f64], n: usize, b: Breaks, p: Path, next: f64, minimizer: f64) -> Segment
     requires { ⌜ (firstPair * n ≤ length (now area)) × Listed n b ⌝ }
-    ensures { λ r. ⌜ (let v = view (now (area .entry)) n in Segments (alongOf n (boundsOf v) (v X) (breakList b) (pathOf p v) next minimizer) v r (view (now (area .exit)) n)) ⌝ }
+    ensures { λ r. ⌜ (let v = view (now (area .entry)) n in
+        Segments (alongOf n (boundsOf v) (v X) (breakList b) (pathOf p v) next minimizer) v r (view (now (area .exit)) n)) ⌝ }
 {
     if !float::is_finite(minimizer) {
         return Segment::Ended(false);
@@ -404,7 +407,8 @@ fn along(area: &mut [f64], n: usize, b: Breaks, p: Path, next: f64, minimizer: f
 // The curvature must lie above zero; a slope that does not fall ends the path.
 fn by_slope(area: &mut [f64], n: usize, b: Breaks, p: Path, slope: f64, curvature: f64) -> Segment
     requires { ⌜ (firstPair * n ≤ length (now area)) × Listed n b ⌝ }
-    ensures { λ r. ⌜ (let v = view (now (area .entry)) n in Segments (bySlope n (boundsOf v) (v X) (breakList b) (pathOf p v) slope curvature) v r (view (now (area .exit)) n)) ⌝ }
+    ensures { λ r. ⌜ (let v = view (now (area .entry)) n in
+        Segments (bySlope n (boundsOf v) (v X) (breakList b) (pathOf p v) slope curvature) v r (view (now (area .exit)) n)) ⌝ }
 {
     if !float::is_finite(slope) {
         return Segment::Ended(false);
@@ -445,7 +449,8 @@ fn segment_from(
     p: Path,
 ) -> Segment
     requires { ⌜ Sound h (length (now area)) × Prepared h theta found (now rows) (now multipliers) (now order) (view (now area) (h .n)) × Listed (h .n) b ⌝ }
-    ensures { λ r. ⌜ (let v = view (now (area .entry)) (h .n) in Segments (segmentOf (h .n) (boundsOf v) (compactOf h theta v) (v X) (v G) (breakList b) (pathOf p v)) v r (view (now (area .exit)) (h .n))) ⌝ }
+    ensures { λ r. ⌜ (let v = view (now (area .entry)) (h .n) in
+        Segments (segmentOf (h .n) (boundsOf v) (compactOf h theta v) (v X) (v G) (breakList b) (pathOf p v)) v r (view (now (area .exit)) (h .n))) ⌝ }
 {
     if still(area, h.n) {
         return Segment::Ended(point_on_path(area, h.n));
@@ -491,8 +496,10 @@ pub fn generalized_cauchy(
     multipliers: &[[f64; 32]; 32],
     order: &[usize; 32],
 ) -> bool
-    requires { ⌜ Sound h (length (now area)) × Prepared h theta found (now rows) (now multipliers) (now order) (view (now area) (h .n)) × (h .n ≤ mostCoordinates) ⌝ }
-    ensures { λ r. ⌜ (let v = view (now (area .entry)) (h .n) in Points (generalizedCauchy (h .n) (boundsOf v) (compactOf h theta v) (v X) (v G)) v r (view (now (area .exit)) (h .n))) ⌝ }
+    requires { ⌜ Sound h (length (now area)) × Prepared h theta found (now rows) (now multipliers) (now order) (view (now area) (h .n))
+        × (h .n ≤ mostCoordinates) ⌝ }
+    ensures { λ r. ⌜ (let v = view (now (area .entry)) (h .n) in
+        Points (generalizedCauchy (h .n) (boundsOf v) (compactOf h theta v) (v X) (v G)) v r (view (now (area .exit)) (h .n))) ⌝ }
 {
     let b = find_breaks(area, h.n);
     let mut p = begin_path(area, h.n);

@@ -144,7 +144,8 @@ lessened-done {h} {theta} {z} {p} {k} {o} {a} {b} q w g e r l =
     let c = compactOf h theta o in
     let x = tab (h .n) (λ (i : ℕ). times theta (word (o q) i)) in
     let start : (i : ℕ) → i < h .n → word (a p) i ≡ times theta (word (o q) i) =
-    λ i m. ap (λ (y : Vecs). word (y p) i) e ∙ ap (λ (y : List Float). word y i) (upd-same o p x) ∙ tab-get (h .n) (λ (i : ℕ). times theta (word (o q) i)) i nan m in
+    λ i m. ap (λ (y : Vecs). word (y p) i) e ∙ ap (λ (y : List Float). word y i) (upd-same o p x)
+    ∙ tab-get (h .n) (λ (i : ℕ). times theta (word (o q) i)) i nan m in
     let column : (j i : ℕ) → j < k → i < h .n → word (a (columnSlot h j)) i ≡ columnWord c j i =
     λ j i n m.
     ap (λ (y : Vecs). word (y (columnSlot h j)) i) e
@@ -158,7 +159,8 @@ lessened-done {h} {theta} {z} {p} {k} {o} {a} {b} q w g e r l =
     (tab-same (h .n) (lessOf h z p a k) (lessTo c z (o q) k)
     (λ i m.
     ap (foldTo k (λ j r. minus r (times (word z j) (word (a (columnSlot h j)) i)))) (start i m)
-    ∙ fold-same k (λ j r. minus r (times (word z j) (word (a (columnSlot h j)) i))) (λ j r. minus r (times (word z j) (columnWord c j i))) (times theta (word (o q) i))
+    ∙ fold-same k (λ j r. minus r (times (word z j) (word (a (columnSlot h j)) i))) (λ j r. minus r (times (word z j) (columnWord c j i)))
+    (times theta (word (o q) i))
     (λ j r n. ap (λ (y : Float). minus r (times (word z j) y)) (column j i n m)))))
 
 -- ---- products with B
@@ -171,7 +173,8 @@ weighed h theta v q m y r d e f g =
     rw (pairs-count h v, ne-eqb (h .pairs) 0 d)
     (g ∙ (λ i. solve (2 * h .pairs) (rw (pairs-count h v) at (e .block) i) (rw (pairs-count h v) at f i)))
 
-pub weighed-with : {h : Shape} {theta : Float} {v : Vecs} {ok : Bool} {t f : Matrix} {p : List ℕ} (q : ℕ) (y : List Float) (r : Option (List Float)) → (h .pairs ≡ 0 → ⊥)
+pub weighed-with : {h : Shape} {theta : Float} {v : Vecs} {ok : Bool} {t f : Matrix} {p : List ℕ} (q : ℕ) (y : List Float) (r : Option (List Float))
+    → (h .pairs ≡ 0 → ⊥)
     → Prepared h theta ok t f p v → y ≡ rightSide (h .n) (compactOf h theta v) (v q) → r ≡ solvedWith (2 * h .pairs) ok t f p y
     → r ≡ weights (h .n) (compactOf h theta v) (v q)
 weighed-with {h} {theta} {v} q y r d e f g =

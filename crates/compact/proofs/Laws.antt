@@ -91,7 +91,8 @@ pub padding-none : {A : Type 0} {z : A} {n : ℕ} {f : ℕ → A} {b : List A} �
 unfolding padded tab
 padding-none h e = record { upto = omega arith; most = h; is = e }
 
-pub padding-more : {A : Type 0} {z : A} {n : ℕ} {f : ℕ → A} {b : List A} {i : ℕ} {v : A} → Padding z n f b i → i < n → v ≡ f i → Padding z n f (set b i v) (i + 1)
+pub padding-more : {A : Type 0} {z : A} {n : ℕ} {f : ℕ → A} {b : List A} {i : ℕ} {v : A} → Padding z n f b i → i < n → v ≡ f i
+    → Padding z n f (set b i v) (i + 1)
 unfolding padded
 padding-more {z = z} {n = n} {f = f} {b = b} {i = i} {v = v} r h e =
     let l : i < 32 = omega (arith, r .most) in

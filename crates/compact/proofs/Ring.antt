@@ -136,16 +136,22 @@ pair-pushed {h} {g} old theta k a b r e q j =
       m = rw j;
       is =
           rw (j, same)
-          (λ i. record { pairs = push-at h a (a Velocity) (a Displacement) (r .most) (r .ring) (ltb (h .pairs) (h .m)) refl i; theta = theta; oldest = oldest-at h old a (r .most) (ltb (h .pairs) (h .m)) refl i });
+          (λ i. record {
+            pairs = push-at h a (a Velocity) (a Displacement) (r .most) (r .ring) (ltb (h .pairs) (h .m)) refl i;
+            theta = theta;
+            oldest = oldest-at h old a (r .most) (ltb (h .pairs) (h .m)) refl i;
+          });
       kept = λ p l. (λ i. same i p) ∙ low-put a at p (a Velocity) (a Displacement) l;
     }
 
-update-at : (n m : ℕ) (c : C.Compact) (s y : List Float) (sy yy : Float) (t : Bool) → sy ≡ dot n s y → yy ≡ dot n y y → (C.curved sy yy && C.usable (over yy sy)) ≡ t
+update-at : (n m : ℕ) (c : C.Compact) (s y : List Float) (sy yy : Float) (t : Bool) → sy ≡ dot n s y → yy ≡ dot n y y
+    → (C.curved sy yy && C.usable (over yy sy)) ≡ t
     → C.update n m c s y ≡ cond t (C.pushed m c (record { s = s; y = y }) (over yy sy)) c
 unfolding C.update
 update-at n m c s y sy yy t p q h = rw (← p, ← q, h)
 
-pub pair-taken : {h g : Shape} {old sy yy : Float} {a b : Vecs} → sy ≡ dot (h .n) (a Velocity) (a Displacement) → yy ≡ dot (h .n) (a Displacement) (a Displacement)
+pub pair-taken : {h g : Shape} {old sy yy : Float} {a b : Vecs} → sy ≡ dot (h .n) (a Velocity) (a Displacement)
+    → yy ≡ dot (h .n) (a Displacement) (a Displacement)
     → (C.curved sy yy && C.usable (over yy sy)) ≡ true → Pushed h old (over yy sy) a g b → Updated h old a g (over yy sy) b
 pair-taken {h} {g} {old} {sy} {yy} {a} {b} p q e r = record {
   sound = r .sound;
@@ -155,7 +161,8 @@ pair-taken {h} {g} {old} {sy} {yy} {a} {b} p q e r = record {
   kept = r .kept;
 }
 
-pub pair-refused : {h : Shape} {old sy yy : Float} {a : Vecs} → sy ≡ dot (h .n) (a Velocity) (a Displacement) → yy ≡ dot (h .n) (a Displacement) (a Displacement)
+pub pair-refused : {h : Shape} {old sy yy : Float} {a : Vecs} → sy ≡ dot (h .n) (a Velocity) (a Displacement)
+    → yy ≡ dot (h .n) (a Displacement) (a Displacement)
     → (C.curved sy yy && C.usable (over yy sy)) ≡ false → Updated h old a h old a
 pair-refused {h} {old} {sy} {yy} {a} p q e = record {
   sound = λ size s. s;

@@ -108,7 +108,8 @@ fn push(area: &mut [f64], h: Shape, old: f64, theta: f64) -> Shape
 // `update` with the s and y of the two scratch vectors: the old pairs and theta stay unless the new pair is accepted.
 pub fn update(area: &mut [f64], h: Shape, theta: f64) -> Updated
     requires { ⌜ Sound h (length (now area)) ⌝ }
-    ensures { λ r. ⌜ Rattle.compact.specs.State.Updated h theta (view (now (area .entry)) (h .n)) (r .shape) (r .theta) (view (now (area .exit)) (h .n)) ⌝ }
+    ensures { λ r. ⌜ Rattle.compact.specs.State.Updated h theta (view (now (area .entry)) (h .n)) (r .shape) (r .theta)
+        (view (now (area .exit)) (h .n)) ⌝ }
 {
     let sy = area::dot(area, h.n, area::VELOCITY, area::DISPLACEMENT);
     let yy = area::dot(area, h.n, area::DISPLACEMENT, area::DISPLACEMENT);
@@ -131,7 +132,7 @@ pub fn update(area: &mut [f64], h: Shape, theta: f64) -> Updated
 // The s of pair i times the y of pair j.
 fn s_dot_y(area: &[f64], h: Shape, i: usize, j: usize) -> f64
     requires { ⌜ Sound h (length (now area)) × (i < h .pairs) × (j < h .pairs) ⌝ }
-    ensures { λ r. ⌜ r ≡ dotOf (h .n) (pairOf (pairsOf h (view (now (area .entry)) (h .n))) i .s) (pairOf (pairsOf h (view (now (area .entry)) (h .n))) j .y) ⌝ }
+    ensures { λ r. ⌜ (let v = view (now (area .entry)) (h .n) in r ≡ dotOf (h .n) (pairOf (pairsOf h v) i .s) (pairOf (pairsOf h v) j .y)) ⌝ }
 {
     let p = pair_slot(area, h, i);
     let q = pair_slot(area, h, j);
@@ -141,7 +142,7 @@ fn s_dot_y(area: &[f64], h: Shape, i: usize, j: usize) -> f64
 // The s of pair i times the s of pair j.
 fn s_dot_s(area: &[f64], h: Shape, i: usize, j: usize) -> f64
     requires { ⌜ Sound h (length (now area)) × (i < h .pairs) × (j < h .pairs) ⌝ }
-    ensures { λ r. ⌜ r ≡ dotOf (h .n) (pairOf (pairsOf h (view (now (area .entry)) (h .n))) i .s) (pairOf (pairsOf h (view (now (area .entry)) (h .n))) j .s) ⌝ }
+    ensures { λ r. ⌜ (let v = view (now (area .entry)) (h .n) in r ≡ dotOf (h .n) (pairOf (pairsOf h v) i .s) (pairOf (pairsOf h v) j .s)) ⌝ }
 {
     let p = pair_slot(area, h, i);
     let q = pair_slot(area, h, j);
@@ -247,7 +248,8 @@ fn scale(area: &mut [f64], n: usize, p: usize, q: usize, w: f64)
 // Column k: the y of a pair, or theta times its s.
 fn lay_column(area: &mut [f64], h: Shape, theta: f64, k: usize)
     requires { ⌜ Sound h (length (now area)) × (k < 2 * h .pairs) ⌝ }
-    ensures { λ _. ⌜ view (now (area .exit)) (h .n) ≡ upd (view (now (area .entry)) (h .n)) (columnSlot h k) (tab (h .n) (columnWord (compactOf h theta (view (now (area .entry)) (h .n))) k)) ⌝ }
+    ensures { λ _. ⌜ (let v = view (now (area .entry)) (h .n) in
+        view (now (area .exit)) (h .n) ≡ upd v (columnSlot h k) (tab (h .n) (columnWord (compactOf h theta v) k))) ⌝ }
 {
     let to = column_slot(h, k);
     if k < h.pairs {
@@ -328,7 +330,8 @@ fn less(area: &mut [f64], n: usize, p: usize, q: usize, w: f64)
 // Vector p becomes theta times vector q, less each column with its weight.
 fn less_columns(area: &mut [f64], h: Shape, theta: f64, z: [f64; 32], p: usize, q: usize)
     requires { ⌜ Sound h (length (now area)) × Laid h theta (view (now area) (h .n)) × (p < firstPair) × (q < firstPair) ⌝ }
-    ensures { λ _. ⌜ view (now (area .exit)) (h .n) ≡ upd (view (now (area .entry)) (h .n)) p (tab (h .n) (lessTo (compactOf h theta (view (now (area .entry)) (h .n))) z (view (now (area .entry)) (h .n) q) (2 * h .pairs))) ⌝ }
+    ensures { λ _. ⌜ (let v = view (now (area .entry)) (h .n) in
+        view (now (area .exit)) (h .n) ≡ upd v p (tab (h .n) (lessTo (compactOf h theta v) z (v q) (2 * h .pairs)))) ⌝ }
 {
     let size = 2 * h.pairs;
     scale(area, h.n, p, q, theta);
@@ -351,7 +354,8 @@ pub fn product(
     p: usize,
     q: usize,
 ) -> bool
-    requires { ⌜ Sound h (length (now area)) × Prepared h theta found (now rows) (now multipliers) (now order) (view (now area) (h .n)) × (p < firstPair) × (q < firstPair) ⌝ }
+    requires { ⌜ Sound h (length (now area)) × Prepared h theta found (now rows) (now multipliers) (now order) (view (now area) (h .n)) × (p < firstPair)
+        × (q < firstPair) ⌝ }
     ensures { λ r. ⌜ Multiplied h theta p q (view (now (area .entry)) (h .n)) r (view (now (area .exit)) (h .n)) ⌝ }
 {
     let w = weights(area, h, theta, found, rows, multipliers, order, q);

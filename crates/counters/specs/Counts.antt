@@ -8,7 +8,8 @@ use Rattle.counters.specs.declared.Counters.{Counters}
 use Rattle.counters.specs.declared.Charge.{Charge}
 use Rattle.counters.specs.declared.Charge.the-variants.{Spent, Charged}
 use Rattle.counters.specs.declared.Termination.{Termination}
-use Rattle.counters.specs.declared.Termination.the-variants.{GTol, FTol, MaxIterations, MaxEvaluations, Cancelled, Nonfinite, LineSearchFailed, ObjectiveFailed}
+use Rattle.counters.specs.declared.Termination.the-variants.{GTol, FTol, MaxIterations, MaxEvaluations, Cancelled}
+use Rattle.counters.specs.declared.Termination.the-variants.{Nonfinite, LineSearchFailed, ObjectiveFailed}
 
 abbrev pub countersOf : Counters → C.Counters
 countersOf k = record { nit = k .nit; nfev = k .nfev; njev = k .njev }

@@ -1,7 +1,8 @@
 // `Counters` and `Termination`: what is counted, each budget where it is charged, and how a fit ends.
 ghost use mathlib.Core.Path.{_≡_};
 ghost use Prim.Native.Nat.{_<_};
-ghost use Rattle.definition.specs.Counters.{statusNumber, firstCounters, valueLeft, chargeGradient as chargeGradientOf, chargeIteration as chargeIterationOf, iterationsSpent};
+ghost use Rattle.definition.specs.Counters.{statusNumber, firstCounters, valueLeft};
+ghost use Rattle.definition.specs.Counters.{chargeGradient as chargeGradientOf, chargeIteration as chargeIterationOf, iterationsSpent};
 ghost use Rattle.problem.specs.Setups.{limitsOf};
 ghost use Rattle.counters.specs.Counts.{countersOf, terminationOf, chargeOf, chargedIf, valueCharged, valueCharge, mostCounted};
 use problem::Limits;
@@ -113,7 +114,8 @@ pub fn iterations_spent(l: Limits, k: Counters) -> bool
 
 // `Counters::value`: charges a value question and says so, or says that the budget is spent and charges nothing.
 pub fn value(l: Limits, k: &mut Counters) -> bool
-    ensures { λ r. ⌜ (countersOf (now (k .exit)) ≡ valueCharged (limitsOf l) (countersOf (now (k .entry)))) × (r ≡ valueLeft (limitsOf l) (countersOf (now (k .entry)))) ⌝ }
+    ensures { λ r. ⌜ (countersOf (now (k .exit)) ≡ valueCharged (limitsOf l) (countersOf (now (k .entry))))
+        × (r ≡ valueLeft (limitsOf l) (countersOf (now (k .entry)))) ⌝ }
 {
     let c = *k;
     let left = value_left(l, c);

@@ -13,7 +13,9 @@ use lib.Ieee.Scale.{finite}
 use borrow.Author.Tests.{eqb-true, eqb-false, ltb-false, not-false}
 use Rattle.definition.specs.Number.{zero64}
 use Rattle.definition.specs.Vector.{word}
-use Rattle.definition.specs.Problem.{Setup, Bounds, Refusal, Check, refuse, when, _then_, eachIndex, given, positive, finitePositive, finiteNonnegative, atMost, mostCoordinates, mostPairs, mostBudget, checkSide, checkPair, checkBounds, checkProblem, checkCommon, checkOptions, checkLimits, validate, dimension, orElse, openBounds}
+use Rattle.definition.specs.Problem.{Setup, Bounds, Refusal, Check, refuse, when, _then_, eachIndex, given, positive, finitePositive}
+use Rattle.definition.specs.Problem.{finiteNonnegative, atMost, mostCoordinates, mostPairs, mostBudget, checkSide, checkPair, checkBounds}
+use Rattle.definition.specs.Problem.{checkProblem, checkCommon, checkOptions, checkLimits, validate, dimension, orElse, openBounds}
 use Rattle.definition.specs.Machine.{Reply, Machine, takes, checkLength, checkDue}
 use Rattle.definition.specs.Replies.{Accepted}
 use Rattle.definition.specs.Values.{Each, Given}
@@ -115,7 +117,8 @@ pub record Passed (s : Setup) : Type 0 where
 
 count-passed : (limit option detail : ℕ) (o : Option ℕ) → given (positive option) o ≡ none → given (atMost limit detail) o ≡ none → Given (Count limit) o
 count-passed limit option detail o e f =
-    given-both (λ k. 1 ≤ k) (λ k. k ≤ limit) o (given-passed (positive option) _ o (λ k. above-zero k _) e) (given-passed (atMost limit detail) _ o (most limit detail) f)
+    given-both (λ k. 1 ≤ k) (λ k. k ≤ limit) o (given-passed (positive option) _ o (λ k. above-zero k _) e)
+    (given-passed (atMost limit detail) _ o (most limit detail) f)
 
 finite-passed : (option : ℕ) (o : Option Float) → given (finitePositive option) o ≡ none → Given Finite o
 finite-passed option o e = given-passed (finitePositive option) Finite o (λ v. finite-or v (Ieee.le v zero64) _) e
@@ -143,7 +146,9 @@ accepted-passed s e =
     let limits3 = both-passed (given (atMost mostBudget 3) (s .maxiter)) (given (atMost mostBudget 4) (s .maxfev)) (limits2 .1) in
     record {
       size = (above-zero n _ (problem .0), most mostCoordinates 1 n (limits .0));
-      x0 = each-of Finite (s .x0) nan (λ i h. not-false (finite (word (s .x0) i)) (test-failed (not (finite (word (s .x0) i))) _ (each-passed n finiteAt (points .0) i h)));
+      x0 =
+          each-of Finite (s .x0) nan
+          (λ i h. not-false (finite (word (s .x0) i)) (test-failed (not (finite (word (s .x0) i))) _ (each-passed n finiteAt (points .0) i h)));
       bounds = given-passed (checkBounds n) _ (s .bounds) (box n) (points .1);
       maxiter = count-passed mostBudget 1 3 (s .maxiter) (common .0) (limits3 .0);
       maxfev = count-passed mostBudget 2 4 (s .maxfev) (common2 .0) (limits3 .1);

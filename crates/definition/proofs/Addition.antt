@@ -10,7 +10,8 @@ use lib.Ieee.{Float, nan, inf, fin, Format, binary64, up, down, isNan, fits, le,
 use lib.Ieee.Fits.{down-pos}
 use lib.Ieee.Scale.{finite}
 use Rattle.definition.specs.Number.{plus, zero64, negZero}
-use Rattle.definition.proofs.Order.{NotNan, gain, loss, under-of-le, le-left-not-nan, le-refl, le-trans, le-infinity, nothing-above-infinity, negInfinity-le}
+use Rattle.definition.proofs.Order.{NotNan, gain, loss, under-of-le, le-left-not-nan, le-refl, le-trans}
+use Rattle.definition.proofs.Order.{le-infinity, nothing-above-infinity, negInfinity-le}
 use Rattle.definition.proofs.Rounding.{round-monotone, round-own}
 use Rattle.definition.proofs.Finite.{finite-not-nan, plus-not-nan}
 
@@ -32,18 +33,21 @@ record Rounded (f : Format) (x : Float) (p n c : ℕ) : Type 0 where
   value : gain sign size + n ≡ loss sign size + p
 
 module _ (f : Format) where
-  rounded-le : (x : Float) (p n c : ℕ) (y : Float) (q m d : ℕ) → Rounded f x p n c → Rounded f y q m d → 0 < c → 0 < d → p * d + m * c ≤ q * c + n * d → T (le x y)
+  rounded-le : (x : Float) (p n c : ℕ) (y : Float) (q m d : ℕ) → Rounded f x p n c → Rounded f y q m d → 0 < c → 0 < d → p * d + m * c ≤ q * c + n * d
+      → T (le x y)
   rounded-le x p n c y q m d r t C D h =
       rw (r .is, t .is)
       (round-monotone f (r .sign) (r .size) c (t .sign) (t .size) d C D (omega (arith, ap (λ (z : ℕ). z * d) (r .value), ap (λ (z : ℕ). z * c) (t .value))))
 
-  sum-rounded : (s : Bool) (a q : ℕ) (t : Bool) (b p c : ℕ) → Rounded f (sum f s (a * q) t (b * p) c) (gain s a * q + gain t b * p) (loss s a * q + loss t b * p) c
+  sum-rounded : (s : Bool) (a q : ℕ) (t : Bool) (b p c : ℕ)
+      → Rounded f (sum f s (a * q) t (b * p) c) (gain s a * q + gain t b * p) (loss s a * q + loss t b * p) c
   unfolding sum
   sum-rounded false a q false b p c = record { sign = false; size = a * q + b * p; is = refl; value = omega arith }
   sum-rounded true a q true b p c = record { sign = true; size = a * q + b * p; is = refl; value = omega arith }
   sum-rounded false a q true b p c = go (ltb (a * q) (b * p)) refl
     where
-      go : (x : Bool) → ltb (a * q) (b * p) ≡ x → Rounded f (cond x (round f true (b * p - a * q) c) (round f false (a * q - b * p) c)) (a * q + 0 * p) (0 * q + b * p) c
+      go : (x : Bool) → ltb (a * q) (b * p) ≡ x
+          → Rounded f (cond x (round f true (b * p - a * q) c) (round f false (a * q - b * p) c)) (a * q + 0 * p) (0 * q + b * p) c
       go true e = record { sign = true; size = b * p - a * q; is = refl; value = omega (arith, ltb-true) }
       go false e = record { sign = false; size = a * q - b * p; is = refl; value = omega (arith, ltb-false) }
   sum-rounded true a q false b p c = go (ltb (a * q) (b * p)) (ltb (b * p) (a * q)) refl refl

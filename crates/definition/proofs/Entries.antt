@@ -15,7 +15,8 @@ use borrow.Author.Tests.{eqb-true, ltb-false, le-ltb}
 use Rattle.definition.specs.Problem.{Setup, Check}
 use Rattle.definition.specs.Machine.{Reply, Machine, checkDue}
 use Rattle.definition.specs.Driver.{answer, run}
-use Rattle.definition.specs.Log.{entryWords, logWords, valueEntry, gradientEntry, entryOf, Entries, admitDue, admit, nextEntry, oneMore, afterEntries, firstEntries, entriesOf}
+use Rattle.definition.specs.Log.{entryWords, logWords, valueEntry, gradientEntry, entryOf, Entries, admitDue}
+use Rattle.definition.specs.Log.{admit, nextEntry, oneMore, afterEntries, firstEntries, entriesOf}
 use Rattle.definition.specs.Replies.{Due}
 use Rattle.definition.proofs.Tests.{by-test}
 use Rattle.definition.proofs.Accepted.{due-length}

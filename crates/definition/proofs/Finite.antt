@@ -54,7 +54,8 @@ times-factors-finite (fin s m e) (fin t n d) h = (tt, tt)
 -- ---- vectors
 
 pub sum-terms-finite : (n : ℕ) (f : ℕ → Float) → T (finite (sum n f)) → (i : ℕ) → i < n → T (finite (f i))
-sum-terms-finite n f h i l = foldTo-each (λ (s : Float). T (finite s)) (λ (j : ℕ). T (finite (f j))) (λ j s. plus s (f j)) negZero (λ j s k. plus-terms-finite s (f j) k) n h i l
+sum-terms-finite n f h i l =
+    foldTo-each (λ (s : Float). T (finite s)) (λ (j : ℕ). T (finite (f j))) (λ j s. plus s (f j)) negZero (λ j s k. plus-terms-finite s (f j) k) n h i l
 
 pub sum-not-finite : (n : ℕ) (f : ℕ → Float) (i : ℕ) → i < n → finite (f i) ≡ false → finite (sum n f) ≡ false
 sum-not-finite n f i l e = is-false (finite (sum n f)) (not-T (finite (sum n f)) (λ h. subst T e (sum-terms-finite n f h i l)))
@@ -66,7 +67,9 @@ pub dot-factors-finite : (n : ℕ) (a b : List Float) → T (finite (dot n a b))
 dot-factors-finite n a b h i l = times-factors-finite (word a i) (word b i) (dot-products-finite n a b h i l)
 
 pub words-finite : (n : ℕ) (v : List Float) → T (allFinite n v) → (i : ℕ) → i < n → T (finite (word v i))
-words-finite n v h i l = foldTo-each T (λ (j : ℕ). T (finite (word v j))) (λ j b. b && finite (word v j)) true (λ j b k. (and-l b (finite (word v j)) k, and-r b (finite (word v j)) k)) n h i l
+words-finite n v h i l =
+    foldTo-each T (λ (j : ℕ). T (finite (word v j))) (λ j b. b && finite (word v j)) true
+    (λ j b k. (and-l b (finite (word v j)) k, and-r b (finite (word v j)) k)) n h i l
 
 -- ---- results that are no NaN
 

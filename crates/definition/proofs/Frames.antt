@@ -81,7 +81,8 @@ stands-at bs i count h e =
     ∙ take-all 32 tail (omega (arith, length-drop (i + 8 * count) bs)) in
     sym (take-append-drop i bs)
     ∙ ap (λ (l : List ℕ). take i bs ++ l)
-    (sym (take-append-drop (8 * count) body) ∙ ap₂ _++_ (sym words) (drop-drop (8 * count) i bs ∙ sym trailer) ∙ sym (bytes-append (wordsOf count body) (wordsOf 4 tail)))
+    (sym (take-append-drop (8 * count) body) ∙ ap₂ _++_ (sym words) (drop-drop (8 * count) i bs ∙ sym trailer)
+    ∙ sym (bytes-append (wordsOf count body) (wordsOf 4 tail)))
 
 four-words : (bs : List ℕ) (count : ℕ) → getD (wordsOf 4 bs) 2 0 ≡ 1 → getD (wordsOf 4 bs) 3 0 ≡ count
     → wordsOf 4 bs ≡ trailing (getD (wordsOf 4 bs) 0 0) (getD (wordsOf 4 bs) 1 0) count

@@ -14,7 +14,8 @@ use Rattle.definition.specs.Log.{entryWords, logWords}
 use Rattle.definition.specs.Book.{Book, openedBook, withReply, struck, runOf, logOf}
 use Rattle.definition.specs.Record.{Lengths, Reading, checkArea, readRecord, recordBytes}
 use Rattle.definition.specs.Replies.{Due}
-use Rattle.definition.specs.History.{Call, Answer, History, checkReply, callRow, leftBy, refusedBy, restored, restoredAnswer, historyStep, historyAnswer, historyAfter}
+use Rattle.definition.specs.History.{Call, Answer, History, checkReply, callRow, leftBy, refusedBy, restored}
+use Rattle.definition.specs.History.{restoredAnswer, historyStep, historyAnswer, historyAfter}
 use Rattle.definition.specs.Values.{Each, SetupFloats, ReplyWords, Brings}
 use Rattle.definition.specs.Sound.{Sound, atEntry, refusedAtEntry}
 use Rattle.definition.proofs.Lists.{each-drop, each-of}

@@ -17,7 +17,9 @@ use Rattle.definition.specs.Counters.{Termination, valueLeft}
 use Rattle.definition.specs.Gradient.{Probes, probesAt, bothQuotient, rightQuotient, leftQuotient}
 use Rattle.definition.specs.Search.{Search, Verdict, beginSearch, accepts, afterTrial, orFailed}
 use Rattle.definition.specs.Machine.{Reply, Place, Side, Phase, Machine, inPhase, holding, withCompact, heading, withRight, ending, takes, suits, kindOf}
-use Rattle.definition.specs.Driver.{Ends, chosenEnd, endsOf, gradientSmall, askValue, tryStep, byVerdict, searchAlong, towards, byModel, withoutPairs, orWithoutPairs, descend, iterate, learn, move, judgeTrial, measured, complete, withGradient, withComponent, byProbes, probeFrom, probedTo, probed, valued, answer}
+use Rattle.definition.specs.Driver.{Ends, chosenEnd, endsOf, gradientSmall, askValue, tryStep, byVerdict, searchAlong, towards, byModel}
+use Rattle.definition.specs.Driver.{withoutPairs, orWithoutPairs, descend, iterate, learn, move, judgeTrial, measured, complete}
+use Rattle.definition.specs.Driver.{withGradient, withComponent, byProbes, probeFrom, probedTo, probed, valued, answer}
 use Rattle.definition.specs.Facts.{gradientFinite}
 use Rattle.definition.specs.Points.{asks}
 use Rattle.definition.proofs.Tests.{by-test}
@@ -151,7 +153,8 @@ module _ {G : Place → Machine → Type 0} {S A Q : Machine → Type 0} (k : Le
       (w : Place) (i : ℕ) (q : Probes) (side : Side) (v : Float) (m : Machine) → probesAt (m .terms) (m .trial .x) i ≡ q → i < m .terms .n → G w m
       → Q (probed w i q side v m)
   probed-leads w i Probes.neither side v m e l h = to-leads w i zero64 m l h
-  probed-leads w i (Probes.both r f) Side.right v m e l h = ask-leads w i Side.left (withRight v m) (k .right w v m h) l (ap (λ (z : Probes). asks z Side.left) e)
+  probed-leads w i (Probes.both r f) Side.right v m e l h =
+      ask-leads w i Side.left (withRight v m) (k .right w v m h) l (ap (λ (z : Probes). asks z Side.left) e)
   probed-leads w i (Probes.both r f) Side.left v m e l h = to-leads w i (bothQuotient r f (m .rightValue) v) m l h
   probed-leads w i (Probes.rightOnly r) side v m e l h = to-leads w i (rightQuotient (word (m .trial .x) i) (m .trial .f) r v) m l h
   probed-leads w i (Probes.leftOnly f) side v m e l h = to-leads w i (leftQuotient (word (m .trial .x) i) (m .trial .f) f v) m l h

@@ -13,12 +13,16 @@ use lib.Ieee.Scale.{finite}
 use lib.Ieee.Bits.{is-true}
 use Rattle.definition.specs.Number.{zero64, infinity, negInfinity}
 use Rattle.definition.specs.Vector.{foldTo, word}
-use Rattle.definition.specs.Problem.{Setup, Bounds, Refusal, Check, refuse, when, _then_, eachIndex, given, checkSide, checkPair, checkBounds, checkProblem, positive, finitePositive, finiteNonnegative, checkCommon, checkOptions, mostCoordinates, mostPairs, mostBudget, atMost, checkLimits, validate, dimension, areaNeeded}
+use Rattle.definition.specs.Problem.{Setup, Bounds, Refusal, Check, refuse, when, _then_, eachIndex, given, checkSide, checkPair}
+use Rattle.definition.specs.Problem.{checkBounds, checkProblem, positive, finitePositive, finiteNonnegative, checkCommon, checkOptions}
+use Rattle.definition.specs.Problem.{mostCoordinates, mostPairs, mostBudget, atMost, checkLimits, validate, dimension, areaNeeded}
 use Rattle.definition.specs.Machine.{Reply, replyKind, broughtWords, Machine, Question, takes, checkLength, checkDue, question, unreported}
 use Rattle.definition.specs.Log.{entryWords, logWords, entryOf, Entries, admitDue, admit, nextEntry, oneMore, afterEntries, firstEntries, entriesOf}
 use Rattle.definition.specs.Book.{Book, runOf, logOf, entryAt}
-use Rattle.definition.specs.Record.{Lengths, Reading, setupIn, setupLength, wordsOf, recordWords, readingOf, checkArea, sameSums, malformed, checkWords, unlessRefused, readWords, framed, readRecord}
-use Rattle.definition.specs.History.{Call, Answer, History, setupRow, mostRefusal, refusalsOf, among, logShort, outputShort, checkReply, checkQuestion, restoredAnswer, refusedBy, historyAnswer}
+use Rattle.definition.specs.Record.{Lengths, Reading, setupIn, setupLength, wordsOf, recordWords, readingOf, checkArea}
+use Rattle.definition.specs.Record.{sameSums, malformed, checkWords, unlessRefused, readWords, framed, readRecord}
+use Rattle.definition.specs.History.{Call, Answer, History, setupRow, mostRefusal, refusalsOf, among, logShort}
+use Rattle.definition.specs.History.{outputShort, checkReply, checkQuestion, restoredAnswer, refusedBy, historyAnswer}
 use Rattle.definition.specs.Programs.{mostBytes, plenty, readInput}
 use Rattle.definition.proofs.Tests.{by-test, holds, both-hold}
 
@@ -138,12 +142,18 @@ setup-numbered s =
     (both (given (positive 2) (s .maxfev)) (given (finitePositive 1) (s .tol)) (count 2 (s .maxfev)) (above 1 (s .tol))) in
     let last = both (given (positive 3) (s .maxcor)) (given (finitePositive 2) (s .eps)) (count 3 (s .maxcor)) (above 2 (s .eps)) in
     let options =
-    both (given (finiteNonnegative 1) (s .ftol)) (given (finiteNonnegative 2) (s .gtol) then given (positive 3) (s .maxcor) then given (finitePositive 2) (s .eps)) (not-below 1 (s .ftol))
+    both (given (finiteNonnegative 1) (s .ftol))
+    (given (finiteNonnegative 2) (s .gtol) then given (positive 3) (s .maxcor) then given (finitePositive 2) (s .eps)) (not-below 1 (s .ftol))
     (both (given (finiteNonnegative 2) (s .gtol)) (given (positive 3) (s .maxcor) then given (finitePositive 2) (s .eps)) (not-below 2 (s .gtol)) last) in
-    let budgets = both (given (atMost mostBudget 3) (s .maxiter)) (given (atMost mostBudget 4) (s .maxfev)) (limited mostBudget 3 (s .maxiter)) (limited mostBudget 4 (s .maxfev)) in
+    let budgets =
+    both (given (atMost mostBudget 3) (s .maxiter)) (given (atMost mostBudget 4) (s .maxfev)) (limited mostBudget 3 (s .maxiter))
+    (limited mostBudget 4 (s .maxfev)) in
     let limits =
-    both (atMost mostCoordinates 1 (length (s .x0))) (given (atMost mostPairs 2) (s .maxcor) then given (atMost mostBudget 3) (s .maxiter) then given (atMost mostBudget 4) (s .maxfev)) (limit mostCoordinates 1 (length (s .x0)))
-    (both (given (atMost mostPairs 2) (s .maxcor)) (given (atMost mostBudget 3) (s .maxiter) then given (atMost mostBudget 4) (s .maxfev)) (limited mostPairs 2 (s .maxcor)) budgets) in
+    both (atMost mostCoordinates 1 (length (s .x0)))
+    (given (atMost mostPairs 2) (s .maxcor) then given (atMost mostBudget 3) (s .maxiter) then given (atMost mostBudget 4) (s .maxfev))
+    (limit mostCoordinates 1 (length (s .x0)))
+    (both (given (atMost mostPairs 2) (s .maxcor)) (given (atMost mostBudget 3) (s .maxiter) then given (atMost mostBudget 4) (s .maxfev))
+    (limited mostPairs 2 (s .maxcor)) budgets) in
     both (checkProblem s) (checkCommon s then checkOptions s then checkLimits s) (problem s)
     (both (checkCommon s) (checkOptions s then checkLimits s) common (both (checkOptions s) (checkLimits s) options limits))
 

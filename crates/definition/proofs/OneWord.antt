@@ -8,7 +8,8 @@ use mathlib.Core.List.{List, [], _∷_, _++_}
 use lib.Dec.{eqb}
 use lib.ListN.{length, getD, set, length-set}
 use borrow.Author.Tests.{eqb-true}
-use Rattle.definition.specs.Record.{Lengths, Reading, Sums, wordSize, added, sumsFrom, sums, trailer, bytes, plainRefusal, sameSums, checkWords, readWords, readRecord}
+use Rattle.definition.specs.Record.{Lengths, Reading, Sums, wordSize, added, sumsFrom, sums, trailer, bytes}
+use Rattle.definition.specs.Record.{plainRefusal, sameSums, checkWords, readWords, readRecord}
 use Rattle.definition.specs.Values.{Words}
 use Rattle.definition.proofs.Tests.{both-true}
 use Rattle.definition.proofs.Lists.{each-at, each-set}

@@ -1,4 +1,5 @@
--- The order of floats: transitive; reflexive, total and antisymmetric (up to `eq`) where there is no NaN; turned round by `neg`; and `clamp` stays within its bounds.
+-- The order of floats: transitive; reflexive, total and antisymmetric (up to `eq`) where there
+-- is no NaN; turned round by `neg`; and `clamp` stays within its bounds.
 -- The comparison of two finite floats is one inequality of natural numbers, `Under`. Assumes nothing.
 use Prim.Native.Nat.{ℕ, _+_, _*_, _≤_, _<_}
 use native.Mathlib.Nat.{le-refl as ≤-refl, le-of-mul-le-mul-right, mul-le-mul-right}
@@ -224,7 +225,8 @@ clamp-within x low high p h = go (lt x low) (lt high x) (le-of-not-lt x low p q)
     r : NotNan high
     r = le-right-not-nan low high h
 
-    go : (a b : Bool) → (a ≡ false → T (le low x)) → (b ≡ false → T (le x high)) → T (le low (cond a low (cond b high x))) × T (le (cond a low (cond b high x)) high)
+    go : (a b : Bool) → (a ≡ false → T (le low x)) → (b ≡ false → T (le x high))
+        → T (le low (cond a low (cond b high x))) × T (le (cond a low (cond b high x)) high)
     go true b f g = (le-refl low q, h)
     go false true f g = (h, le-refl high r)
     go false false f g = (f refl, g refl)

@@ -64,7 +64,8 @@ reply-at (r ∷ rs) k d h =
 entry-is : (rs : List Reply) (k : ℕ) → entryInOrder (reverse rs) k ≡ entryAt rs k
 entry-is rs k = ap (λ (n : ℕ). cond (ltb k n) (entryWords (getD (reverse rs) k Reply.failure)) []) (length-reverse rs) ∙ go (ltb k (length rs)) refl
   where
-    go : (t : Bool) → ltb k (length rs) ≡ t → cond t (entryWords (getD (reverse rs) k Reply.failure)) [] ≡ cond t (entryWords (getD rs (length rs - (k + 1)) Reply.failure)) []
+    go : (t : Bool) → ltb k (length rs) ≡ t
+        → cond t (entryWords (getD (reverse rs) k Reply.failure)) [] ≡ cond t (entryWords (getD rs (length rs - (k + 1)) Reply.failure)) []
     go true e = ap entryWords (reply-at rs k Reply.failure (ltb-true k (length rs) e))
     go false e = refl
 

@@ -131,7 +131,8 @@ module _ (s : Setup) (rs : List Reply) (r : Reply) where
 
   own-later : (o : Option (List Float)) (x : List Float) (f : Float) → OwnOf o s rs x f → takesTrial b r ≡ false → OwnOf o s (r ∷ rs) x f
   unfolding firstValue given-later
-  own-later none x f h q = record { point = h .point; given = given-later s r (h .given); first = still-first (firstValue rs) (valueIn r) (h .given .word) (h .first) }
+  own-later none x f h q =
+      record { point = h .point; given = given-later s r (h .given); first = still-first (firstValue rs) (valueIn r) (h .given .word) (h .first) }
   own-later (some p) x f h q =
       let g = h .given in
       record { point = h .point; given = given-later s r g; last = taken-later (Reply.value (g .word) ∷ g .earlier) (g .later) (g .split) q (h .last) }
@@ -144,7 +145,8 @@ module _ (s : Setup) (rs : List Reply) (r : Reply) where
   first-held : (v : ℕ) → rs ≡ [] → r ≡ Reply.value v → Held (b .held .x) (toFloat v) × Held (b .trial .x) (toFloat v)
   unfolding run begin lastTaken firstValue given-now
   first-held v e q =
-      let h : StartHeld s (Reply.value v ∷ []) (projectedStart s) (toFloat v) = record { point = refl; given = given-now s Place.start [] v refl; first = refl } in
+      let h : StartHeld s (Reply.value v ∷ []) (projectedStart s) (toFloat v)
+      = record { point = refl; given = given-now s Place.start [] v refl; first = refl } in
       rw (e, q) ((λ _. h), (λ _. h))
 
   trial-tried : (v : ℕ) → b .phase ≡ Phase.value Place.trial → r ≡ Reply.value v → Tried s (r ∷ rs) (b .trial .x) (toFloat v)
@@ -207,7 +209,8 @@ stages s (r ∷ rs) d =
     (answer-leads (leads (Held s rs r) (Taking s rs r) (Tried s (r ∷ rs))) m r (due-taken m r (d .0))
     (λ p e. known s rs r p e (subst (StageIn s (lastTaken s rs) rs m) e h)))
 
-held-in : (s : Setup) (o : Option (List Float)) (rs : List Reply) (m : Machine) (p : Phase) → StageIn s o rs m p → unreported p ≡ false → Holding (OwnOf o s rs) m
+held-in : (s : Setup) (o : Option (List Float)) (rs : List Reply) (m : Machine) (p : Phase) → StageIn s o rs m p → unreported p ≡ false
+    → Holding (OwnOf o s rs) m
 held-in s o rs m (Phase.value Place.start) h e = absurd (true≢false e)
 held-in s o rs m (Phase.value Place.trial) h e = h
 held-in s o rs m (Phase.gradient w) h e = h .0
@@ -232,5 +235,6 @@ pub start-asked-first : (s : Setup) (rs : List Reply) → Due s rs → run s rs 
 start-asked-first s rs d e = subst (StageIn s (lastTaken s rs) rs (run s rs)) e (stages s rs d)
 
 -- a coordinate that is probed is one of the fit's
-pub probed-coordinate : (s : Setup) (rs : List Reply) → Due s rs → (w : Place) (i : ℕ) (side : Side) → run s rs .phase ≡ Phase.probe w i side → i < run s rs .terms .n
+pub probed-coordinate : (s : Setup) (rs : List Reply) → Due s rs → (w : Place) (i : ℕ) (side : Side) → run s rs .phase ≡ Phase.probe w i side
+    → i < run s rs .terms .n
 probed-coordinate s rs d w i side e = subst (StageIn s (lastTaken s rs) rs (run s rs)) e (stages s rs d) .1

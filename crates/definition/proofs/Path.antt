@@ -15,7 +15,8 @@ use Rattle.definition.specs.Number.{plus, minus, over, totalLe, zero64, 
 use Rattle.definition.specs.Vector.{foldTo, dot, _andThen_}
 use Rattle.definition.specs.Problem.{Bounds, orElse}
 use Rattle.definition.specs.Compact.{Compact, product}
-use Rattle.definition.specs.Geometry.{Break, noBreak, inserted, breakTime, breaksOf, Path, Segment, ended, onward, pointOnPath, travelled, stopped, stopAll, passed, along, bySlope, still, segment, walk, pathStart, generalizedCauchy}
+use Rattle.definition.specs.Geometry.{Break, noBreak, inserted, breakTime, breaksOf, Path, Segment, ended, onward, pointOnPath, travelled}
+use Rattle.definition.specs.Geometry.{stopped, stopAll, passed, along, bySlope, still, segment, walk, pathStart, generalizedCauchy}
 use Rattle.definition.specs.Values.{Each}
 use Rattle.definition.specs.Paths.{firstSegment, segmentAfter}
 use Rattle.definition.proofs.Tests.{by-test, holds}
@@ -158,7 +159,8 @@ module _ (n : ℕ) (b : Bounds) (c : Compact) (x g : List Float) (bs : List Brea
   after-end zero r = refl
   after-end (suc l) r = after-end l r
 
-  ends : (l low : ℕ) (t : Segment) → Each FiniteTime bs → Leads low bs t → length bs ≤ low + l → (r : Option (List Float)) × (segmentAfter l n b c x g bs t ≡ ended r)
+  ends : (l low : ℕ) (t : Segment) → Each FiniteTime bs → Leads low bs t → length bs ≤ low + l
+      → (r : Option (List Float)) × (segmentAfter l n b c x g bs t ≡ ended r)
   unfolding segmentAfter
   ends zero low (ended r) f h k = (r, refl)
   ends zero low (onward p) f h k = absurd (omega (arith, h .more, h .most))

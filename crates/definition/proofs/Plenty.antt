@@ -16,9 +16,11 @@ use Rattle.definition.specs.Machine.{Machine, Phase, Report, probePoint,
 use Rattle.definition.specs.Gradient.{probesAt}
 use Rattle.definition.specs.Log.{Entries, entriesOf}
 use Rattle.definition.specs.Book.{runOf}
-use Rattle.definition.specs.Record.{Lengths, Reading, plainRefusal, setupIn, setupLength, knownVersion, wordsOf, readingOf, checkArea, sameSums, malformed, checkWords, unlessRefused, readWords, framed, readTrailed, readRecord}
+use Rattle.definition.specs.Record.{Lengths, Reading, plainRefusal, setupIn, setupLength, knownVersion, wordsOf, readingOf, checkArea}
+use Rattle.definition.specs.Record.{sameSums, malformed, checkWords, unlessRefused, readWords, framed, readTrailed, readRecord}
 use Rattle.definition.specs.History.{setupRow, among}
-use Rattle.definition.specs.Programs.{plenty, mostBytes, inputArea, inputLog, readInput, Printed, printedOf, printed, Returned, returnPoint, returnFit, returnOf, returned}
+use Rattle.definition.specs.Programs.{plenty, mostBytes, inputArea, inputLog, readInput, Printed, printedOf}
+use Rattle.definition.specs.Programs.{printed, Returned, returnPoint, returnFit, returnOf, returned}
 use Rattle.definition.proofs.Tests.{by-test, both-hold}
 use Rattle.definition.proofs.Bytes.{wordsOf-length}
 use Rattle.definition.proofs.Entries.{Unshort, after-alike}

@@ -15,7 +15,8 @@ use Rattle.definition.specs.Problem.{Setup, Check, refuse, when, _then_,
 use Rattle.definition.specs.Machine.{Reply}
 use Rattle.definition.specs.Log.{entryWords, logWords, Entries, entriesOf}
 use Rattle.definition.specs.Book.{Book, book, logOf}
-use Rattle.definition.specs.Record.{Lengths, Reading, wordSize, setupWords, setupLength, setupIn, spareBits, sums, trailer, recordWords, recordBytes, bytes, plainRefusal, readingOf, checkArea, sameSums, malformed, checkWords, unlessRefused, readWords, readRecord}
+use Rattle.definition.specs.Record.{Lengths, Reading, wordSize, setupWords, setupLength, setupIn, spareBits, sums, trailer, recordWords, recordBytes}
+use Rattle.definition.specs.Record.{bytes, plainRefusal, readingOf, checkArea, sameSums, malformed, checkWords, unlessRefused, readWords, readRecord}
 use Rattle.definition.specs.Replies.{Accepted, Due}
 use Rattle.definition.specs.Values.{Bytes, Words, SetupFloats, ReplyWords}
 use Rattle.definition.specs.Sound.{Sound}

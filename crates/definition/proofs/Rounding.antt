@@ -1,6 +1,7 @@
 -- Rounding keeps the order of signed fractions, and a float that its format holds is what its own fraction rounds to. Assumes nothing.
 use Prim.Native.Nat.{ℕ, zero, suc, _+_, _-_, _*_, _/_, _%_, _^_, _≤_, _<_}
-use native.Mathlib.Nat.{le-of-suc-le-suc, le-of-mul-le-mul-right, lt-of-not-le, not-le-of-lt, lt-of-mul-lt-mul-right, mul-lt-mul-of-pos-right, zero-mul, mul-one, one-mul, mul-assoc}
+use native.Mathlib.Nat.{le-of-suc-le-suc, le-of-mul-le-mul-right, lt-of-not-le, not-le-of-lt}
+use native.Mathlib.Nat.{lt-of-mul-lt-mul-right, mul-lt-mul-of-pos-right, zero-mul, mul-one, one-mul, mul-assoc}
 use native.Mathlib.Omega.{arith}
 use mathlib.Core.Path.{_≡_, refl, sym, ap, _∙_, subst}
 use mathlib.Core.Bool.{Bool, true, false, _&&_, cond}
@@ -91,10 +92,12 @@ module _ (f : Format) where
       let j = shift e (low f) (leb→le (down e) (2 ^ low f) (and-r (A && B) C abc)) in
       round-exact f s (suc m * up e) (down e) (suc m) (j .0) (down-pos e)
       (ltb→lt (suc m) (2 ^ prec f) (and-r A B (and-l (A && B) C abc)))
-      (rw pow-add (room (suc m) (up e) (2 ^ low f) (2 ^ (j .0)) (2 ^ suc (emax f)) (down e) (j .1) (ltb→lt (suc m * up e) (2 ^ suc (emax f) * down e) (and-r (A && B && C) D h)) (pow-pos (low f))))
+      (rw pow-add (room (suc m) (up e) (2 ^ low f) (2 ^ (j .0)) (2 ^ suc (emax f)) (down e) (j .1)
+      (ltb→lt (suc m * up e) (2 ^ suc (emax f) * down e) (and-r (A && B && C) D h)) (pow-pos (low f))))
       (rw (mul-assoc (suc m) (up e) (2 ^ low f), j .1) (sym (mul-assoc (suc m) (2 ^ (j .0)) (down e))))
 
-  same-value : (s : Bool) (m : ℕ) (e : ℤ) (n : ℕ) (d : ℤ) → T (fits f (fin s m e)) → T (fits f (fin s n d)) → m * up e * down d ≡ n * up d * down e → fin s m e ≡ fin s n d
+  same-value : (s : Bool) (m : ℕ) (e : ℤ) (n : ℕ) (d : ℤ) → T (fits f (fin s m e)) → T (fits f (fin s n d)) → m * up e * down d ≡ n * up d * down e
+      → fin s m e ≡ fin s n d
   unfolding toBits
   same-value s m e n d h k v = sym (ofBits-toBits f (fin s m e) h) ∙ ap (ofBits f) bits ∙ ofBits-toBits f (fin s n d) k
     where

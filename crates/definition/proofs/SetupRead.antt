@@ -14,7 +14,8 @@ use borrow.Author.Tests.{eqb-true}
 use Rattle.definition.specs.Number.{toFloat, toWord}
 use Rattle.definition.specs.Vector.{tab}
 use Rattle.definition.specs.Problem.{Bounds, Scheme, orElse}
-use Rattle.definition.specs.Record.{absent, optionalFloat, boxFlag, schemeFlag, boundWords, shapeWord, setupWords, floatGiven, countGiven, nIn, maxcorIn, hasBox, setupLength, floatsAt, setupIn, wordSize}
+use Rattle.definition.specs.Record.{absent, optionalFloat, boxFlag, schemeFlag, boundWords, shapeWord, setupWords, floatGiven}
+use Rattle.definition.specs.Record.{countGiven, nIn, maxcorIn, hasBox, setupLength, floatsAt, setupIn, wordSize}
 use Rattle.definition.specs.Replies.{Accepted}
 use Rattle.definition.specs.Values.{Each, Given, Words, Binary64, BoxFloats, SetupFloats}
 use Rattle.definition.proofs.Lists.{each-at, each-so, each-take, each-drop}
@@ -115,7 +116,8 @@ module _ (ws : List ℕ) (h : Words ws) where
       ∙ rw (← (drop-drop n 7 ws), ← (drop-drop (2 * n) 7 ws)) (sym (take-three n (drop 7 ws)))
 
   -- long enough, and with no spare bit set
-  pub words-of-setup : setupLength (getD ws 0 0) ≤ length ws → getD ws 0 0 < 262144 → Accepted (setupIn ws) → setupWords (setupIn ws) ≡ take (setupLength (getD ws 0 0)) ws
+  pub words-of-setup : setupLength (getD ws 0 0) ≤ length ws → getD ws 0 0 < 262144 → Accepted (setupIn ws)
+      → setupWords (setupIn ws) ≡ take (setupLength (getD ws 0 0)) ws
   unfolding setupWords setupIn tab
   words-of-setup long small a =
       let p = accepted-passed (setupIn ws) a in
@@ -124,7 +126,8 @@ module _ (ws : List ℕ) (h : Words ws) where
       let enough = at-least (hasBox w) n (length ws) long in
       let size : length (floatsAt ws 7 n) ≡ n = length-map (take n (drop 7 ws)) toFloat ∙ length-take-le n (drop 7 ws) (omega (arith, length-drop 7 ws)) in
       let shape : shapeWord (setupIn ws) ≡ w
-      = rw (size, word-of-count (maxcorIn w), box-flag (w / 65536 % 2) (boxAt ws n) (omega arith), scheme-flag (w / 131072 % 2) (omega arith)) (shape-whole w small) in
+      = rw (size, word-of-count (maxcorIn w), box-flag (w / 65536 % 2) (boxAt ws n) (omega arith), scheme-flag (w / 131072 % 2) (omega arith))
+      (shape-whole w small) in
       let at : (k : ℕ) → k < 7 → getD ws k 0 < wordSize = λ k l. each-at (λ v. v < wordSize) ws k 0 h (omega arith) in
       let rest = point-words n (length (floatsAt ws 7 n)) (hasBox w) (each-so Finite Plain (floatsAt ws 7 n) finite-plain (p .x0)) (p .bounds) in
       let tol = word-of-option (getD ws 3 0) (at 3 (omega arith)) (p .tol) in

@@ -14,7 +14,8 @@ use lib.Ieee.Scale.{finite}
 use borrow.Author.Tests.{ne-eqb}
 use Rattle.definition.specs.Number.{toFloat, toWord}
 use Rattle.definition.specs.Problem.{Setup, Bounds, Scheme, mostBudget, mostCoordinates, mostPairs, dimension, orElse}
-use Rattle.definition.specs.Record.{absent, optionalFloat, boxFlag, schemeFlag, boundWords, shapeWord, setupWords, floatGiven, countGiven, nIn, maxcorIn, setupLength, floatsAt, boundsIn, schemeIn, setupIn, wordSize}
+use Rattle.definition.specs.Record.{absent, optionalFloat, boxFlag, schemeFlag, boundWords, shapeWord, setupWords, floatGiven}
+use Rattle.definition.specs.Record.{countGiven, nIn, maxcorIn, setupLength, floatsAt, boundsIn, schemeIn, setupIn, wordSize}
 use Rattle.definition.specs.Replies.{Accepted}
 use Rattle.definition.specs.Values.{Each, Given, Words, Binary64, BoxFloats, SetupFloats}
 use Rattle.definition.proofs.Tests.{holds}
@@ -94,7 +95,8 @@ box-below (some b) = omega arith
 shape-is : (s : Setup) → Passed s → Shape (shapeWord s) (dimension s) (orElse (s .maxcor) 0) (boxFlag (s .bounds)) (centralBit (s .scheme))
 shape-is s p =
     rw (flag-is (s .scheme))
-    (shape-of (dimension s) (orElse (s .maxcor) 0) (boxFlag (s .bounds)) (centralBit (s .scheme)) (omega (arith, p .size .1)) (omega (arith, count-most mostPairs (s .maxcor) (p .maxcor)))
+    (shape-of (dimension s) (orElse (s .maxcor) 0) (boxFlag (s .bounds)) (centralBit (s .scheme)) (omega (arith, p .size .1))
+    (omega (arith, count-most mostPairs (s .maxcor) (p .maxcor)))
     (box-below (s .bounds)) (central-below (s .scheme)))
 
 scheme-back : (w : ℕ) (q : Scheme) → w / 131072 % 2 ≡ centralBit q → schemeIn w ≡ q
@@ -103,10 +105,12 @@ scheme-back w Scheme.central e = rw e
 
 -- ---- a setup from its words
 
-floats-at : (pre post : List ℕ) (xs : List Float) (k n : ℕ) → length pre ≡ k → length xs ≡ n → Each Binary64 xs → floatsAt (pre ++ (map toWord xs ++ post)) k n ≡ xs
+floats-at : (pre post : List ℕ) (xs : List Float) (k n : ℕ) → length pre ≡ k → length xs ≡ n → Each Binary64 xs
+    → floatsAt (pre ++ (map toWord xs ++ post)) k n ≡ xs
 floats-at pre post xs k n a b f = rw (drop-at pre (map toWord xs ++ post) k a, take-at (map toWord xs) post n (length-map xs toWord ∙ b)) (floats-back xs f)
 
-bounds-back : (pre log : List ℕ) (o : Option Bounds) (w n : ℕ) → length pre ≡ 7 + n → nIn w ≡ n → w / 65536 % 2 ≡ boxFlag o → Given (Sides n) o → Given BoxFloats o
+bounds-back : (pre log : List ℕ) (o : Option Bounds) (w n : ℕ) → length pre ≡ 7 + n → nIn w ≡ n → w / 65536 % 2 ≡ boxFlag o → Given (Sides n) o
+    → Given BoxFloats o
     → boundsIn (pre ++ (boundWords o ++ log)) w ≡ o
 bounds-back pre log none w n a r e h f = rw e
 bounds-back pre log (some b) w n a r e h f =
@@ -117,7 +121,8 @@ bounds-back pre log (some b) w n a r e h f =
     = rw split (floats-at pre (upper ++ log) (b .lower) (7 + n) n a (h .lower .size) (f .0)) in
     let high : floatsAt (pre ++ (lower ++ upper ++ log)) (7 + 2 * n) n ≡ b .upper
     = rw (split, ← (append-assoc pre lower (upper ++ log)))
-    (floats-at (pre ++ lower) log (b .upper) (7 + 2 * n) n (omega (arith, length-append pre lower, length-map (b .lower) toWord, h .lower .size)) (h .upper .size) (f .1)) in
+    (floats-at (pre ++ lower) log (b .upper) (7 + 2 * n) n (omega (arith, length-append pre lower, length-map (b .lower) toWord, h .lower .size))
+    (h .upper .size) (f .1)) in
     rw (e, r) (ap₂ (λ (x y : List Float). some (record { lower = x; upper = y })) low high)
 
 module _ (s : Setup) (log : List ℕ) (a : Accepted s) (f : SetupFloats s) where
@@ -134,7 +139,8 @@ module _ (s : Setup) (log : List ℕ) (a : Accepted s) (f : SetupFloats s) where
       let x0 : floatsAt all 7 (nIn w) ≡ s .x0
       = rw split (floats-at seven (boundWords (s .bounds) ++ log) (s .x0) 7 (nIn w) refl (sym (h .n-in)) (f .x0)) in
       let bounds : boundsIn all w ≡ s .bounds
-      = rw split (bounds-back (seven ++ xs) log (s .bounds) w (dimension s) (omega (arith, length-map (s .x0) toWord)) (h .n-in) (h .b-in) (p .bounds) (f .bounds)) in
+      = rw split
+      (bounds-back (seven ++ xs) log (s .bounds) w (dimension s) (omega (arith, length-map (s .x0) toWord)) (h .n-in) (h .b-in) (p .bounds) (f .bounds)) in
       let maxiter = count-back mostBudget (s .maxiter) (p .maxiter) in
       let maxfev = count-back mostBudget (s .maxfev) (p .maxfev) in
       let tol = option-back (s .tol) (f .tol) (p .tol) in
@@ -143,14 +149,32 @@ module _ (s : Setup) (log : List ℕ) (a : Accepted s) (f : SetupFloats s) where
       let maxcor : countGiven (maxcorIn w) ≡ s .maxcor = ap countGiven (h .c-in) ∙ count-back mostPairs (s .maxcor) (p .maxcor) in
       let eps = option-back (s .eps) (f .eps) (p .eps) in
       let scheme = scheme-back w (s .scheme) (h .q-in) in
-      λ i. record { x0 = x0 i; bounds = bounds i; maxiter = maxiter i; maxfev = maxfev i; tol = tol i; ftol = ftol i; gtol = gtol i; maxcor = maxcor i; eps = eps i; scheme = scheme i }
+      λ i. record {
+        x0 = x0 i;
+        bounds = bounds i;
+        maxiter = maxiter i;
+        maxfev = maxfev i;
+        tol = tol i;
+        ftol = ftol i;
+        gtol = gtol i;
+        maxcor = maxcor i;
+        eps = eps i;
+        scheme = scheme i;
+      }
 
 -- ---- its words: how many, and each below 2 ^ 64
 
 bounds-length : (n : ℕ) (o : Option Bounds) → Given (Sides n) o → length (boundWords o) ≡ boxFlag o * (2 * n)
 bounds-length n none h = omega arith
 bounds-length n (some b) h =
-    omega (arith, length-append (map toWord (b .lower)) (map toWord (b .upper)), length-map (b .lower) toWord, length-map (b .upper) toWord, h .lower .size, h .upper .size)
+    omega (
+      arith,
+      length-append (map toWord (b .lower)) (map toWord (b .upper)),
+      length-map (b .lower) toWord,
+      length-map (b .upper) toWord,
+      h .lower .size,
+      h .upper .size,
+    )
 
 length-in : (o : Option Bounds) (w n : ℕ) → nIn w ≡ n → w / 65536 % 2 ≡ boxFlag o → setupLength w ≡ 7 + n + boxFlag o * (2 * n)
 length-in none w n r e = rw (e, r) (omega arith)

@@ -99,7 +99,8 @@ times-sign s t (inf u) (inf v) p q = rw (is-same s u p, is-same t v q) (nan-or f
 times-sign s t (inf u) (fin v n d) p q = rw (is-same s u p, is-same t v q) (nan-or (eqb n 0) (unlike s t))
 times-sign s t (fin u m e) nan p q = absurd q
 times-sign s t (fin u m e) (inf v) p q = rw (is-same s u p, is-same t v q) (nan-or (eqb m 0) (unlike s t))
-times-sign s t (fin u m e) (fin v n d) p q = rw (is-same s u p, is-same t v q) (inr (round-sign binary64 (unlike s t) (m * up e * (n * up d)) (down e * down d)))
+times-sign s t (fin u m e) (fin v n d) p q =
+    rw (is-same s u p, is-same t v q) (inr (round-sign binary64 (unlike s t) (m * up e * (n * up d)) (down e * down d)))
 
 pub plus-sign : (s : Bool) (x y : Float) → T (hasSign s x) → T (hasSign s y) → T (hasSign s (plus x y))
 unfolding add sum
@@ -109,4 +110,5 @@ plus-sign s (inf u) (inf v) p q = simp (is-same s u p, is-same s v q, beq-refl) 
 plus-sign s (inf u) (fin v n d) p q = p
 plus-sign s (fin u m e) nan p q = absurd q
 plus-sign s (fin u m e) (inf v) p q = q
-plus-sign s (fin u m e) (fin v n d) p q = rw (is-same s u p, is-same s v q, beq-refl s) (round-sign binary64 s (m * up e * down d + n * up d * down e) (down e * down d))
+plus-sign s (fin u m e) (fin v n d) p q =
+    rw (is-same s u p, is-same s v q, beq-refl s) (round-sign binary64 s (m * up e * down d + n * up d * down e) (down e * down d))

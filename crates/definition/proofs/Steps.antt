@@ -1,4 +1,5 @@
--- Steps of a search: finite, not negative, at most 10 ^ 10. What is not above a step, half the sum of two, and the smaller of an unsigned float and a step are steps. Assumes nothing.
+-- Steps of a search: finite, not negative, at most 10 ^ 10. What is not above a step, half the sum of
+-- two, and the smaller of an unsigned float and a step are steps. Assumes nothing.
 use Prim.Native.Nat.{ℕ, _+_, _*_, _≤_, _<_}
 use native.Mathlib.Nat.{mul-le-mul-right, mul-pos}
 use native.Mathlib.Omega.{arith}
@@ -65,7 +66,8 @@ half-step nan h = h
 half-step (inf s) h = absurd h
 half-step (fin true m e) h = absurd h
 half-step (fin false m e) h =
-    round-at-most 10_000_000_000 (m * up e * (1 * up (negsuc 0))) (down e * down (negsuc 0)) (fin false 9765625 (pos 10)) tenth (omega arith) (mul-pos (down-pos e) (omega arith))
+    round-at-most 10_000_000_000 (m * up e * (1 * up (negsuc 0))) (down e * down (negsuc 0)) (fin false 9765625 (pos 10)) tenth (omega arith)
+    (mul-pos (down-pos e) (omega arith))
     (less (m * up e) (down e) h)
   where
     tenth : round binary64 false 10_000_000_000 1 ≡ fin false 9765625 (pos 10)
@@ -83,7 +85,8 @@ sum-step (fin false m e) nan h k = k
 sum-step (fin false m e) (inf s) h k = absurd k
 sum-step (fin false m e) (fin true n d) h k = absurd k
 sum-step (fin false m e) (fin false n d) h k =
-    round-at-most 20_000_000_000 (m * up e * down d + n * up d * down e) (down e * down d) (fin false 9765625 (pos 11)) twentieth (omega arith) (mul-pos (down-pos e) (down-pos d))
+    round-at-most 20_000_000_000 (m * up e * down d + n * up d * down e) (down e * down d) (fin false 9765625 (pos 11)) twentieth (omega arith)
+    (mul-pos (down-pos e) (down-pos d))
     (both (m * up e) (n * up d) (down e) (down d) h k)
   where
     twentieth : round binary64 false 20_000_000_000 1 ≡ fin false 9765625 (pos 11)

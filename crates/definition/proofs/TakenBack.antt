@@ -13,7 +13,8 @@ use Rattle.definition.specs.Log.{entryWords}
 use Rattle.definition.specs.Book.{Book, book, withReply, struck, logOf}
 use Rattle.definition.specs.Record.{Lengths}
 use Rattle.definition.specs.Replies.{Due}
-use Rattle.definition.specs.History.{Call, Answer, History, checkReply, callRow, leftBy, refusedBy, historyStep, historyAnswer, historyAfter, historyAnswers}
+use Rattle.definition.specs.History.{Call, Answer, History, checkReply, callRow, leftBy, refusedBy}
+use Rattle.definition.specs.History.{historyStep, historyAnswer, historyAfter, historyAnswers}
 use Rattle.definition.specs.Sound.{Sound}
 use Rattle.definition.proofs.Entries.{log-more}
 use Rattle.definition.proofs.Histories.{due-struck, log-struck, reply-fits, history-sound, after-append}

@@ -15,7 +15,8 @@ use lib.Ieee.Scale.{finite}
 use Rattle.definition.specs.Number.{plus, times, min, zero64, one64, two64, stepLimit}
 use Rattle.definition.specs.Vector.{foldTo, dot}
 use Rattle.definition.specs.Problem.{Bounds}
-use Rattle.definition.specs.Search.{Search, searchTrials, Limit, distance, limitOf, firstSearch, withLimit, beginSearch, decreases, flat, onFace, accepts, narrows, lowAfter, highAfter, following, goesOn, afterTrial}
+use Rattle.definition.specs.Search.{Search, searchTrials, Limit, distance, limitOf, firstSearch, withLimit, beginSearch, decreases}
+use Rattle.definition.specs.Search.{flat, onFace, accepts, narrows, lowAfter, highAfter, following, goesOn, afterTrial}
 use Rattle.definition.specs.Values.{Given}
 use Rattle.definition.specs.Points.{EachFinite}
 use Rattle.definition.proofs.Order.{NotNan, le-of-under, le-refl, le-trans, le-of-not-lt, le-antisymm}

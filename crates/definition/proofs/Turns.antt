@@ -13,8 +13,12 @@ use Rattle.definition.specs.Compact.{noPairs, count}
 use Rattle.definition.specs.Counters.{Termination, valueLeft, iterationsSpent, chargeValue, chargeGradient}
 use Rattle.definition.specs.Gradient.{Probes, probesAt, bothQuotient, rightQuotient, leftQuotient}
 use Rattle.definition.specs.Search.{Search, Verdict, beginSearch, trialPoint, accepts, afterTrial, orFailed}
-use Rattle.definition.specs.Machine.{Reply, Place, Side, Phase, Machine, state, inPhase, counting, holding, trying, withCompact, heading, searching, withRight, ending, kindOf, suits, takes}
-use Rattle.definition.specs.Driver.{Ends, chosenEnd, endsOf, gradientSmall, decreaseSmall, askValue, tryStep, byVerdict, searchAlong, towards, byModel, withoutPairs, orWithoutPairs, descend, iterate, learn, move, judgeTrial, measured, complete, withGradient, withComponent, byProbes, probeFrom, probedTo, probed, valued, onValue, onGradient, onNotSupplied, onProbe, onGoOn, answerIn, answer}
+use Rattle.definition.specs.Machine.{Reply, Place, Side, Phase, Machine, state, inPhase, counting, holding, trying}
+use Rattle.definition.specs.Machine.{withCompact, heading, searching, withRight, ending, kindOf, suits, takes}
+use Rattle.definition.specs.Driver.{Ends, chosenEnd, endsOf, gradientSmall, decreaseSmall, askValue, tryStep, byVerdict, searchAlong}
+use Rattle.definition.specs.Driver.{towards, byModel, withoutPairs, orWithoutPairs, descend, iterate, learn, move, judgeTrial}
+use Rattle.definition.specs.Driver.{measured, complete, withGradient, withComponent, byProbes, probeFrom, probedTo, probed, valued}
+use Rattle.definition.specs.Driver.{onValue, onGradient, onNotSupplied, onProbe, onGoOn, answerIn, answer}
 use Rattle.definition.specs.Facts.{unprobed, unprobedFrom, lastProbe, lastAsked, completesIn, completesGradient, gradientFinite}
 use Rattle.definition.proofs.Tests.{by-test}
 
@@ -63,7 +67,8 @@ unfolding onValue
 value-turn w v m e = go (finite (toFloat v)) refl
   where
     go : (t : Bool) → finite (toFloat v) ≡ t
-        → Turn m (Reply.value v) (t && false) (cond t (inPhase (Phase.gradient w) (valued w (toFloat v) m)) (ending Termination.nonfinite (valued w (toFloat v) m)))
+        → Turn m (Reply.value v) (t && false)
+        (cond t (inPhase (Phase.gradient w) (valued w (toFloat v) m)) (ending Termination.nonfinite (valued w (toFloat v) m)))
     go true q = Turn.value w v e q
     go false q = Turn.nonfinite w v e q
 
@@ -250,7 +255,8 @@ module _ {G : Place → Machine → Type 0} {S : Machine → Type 0} {Q : Bool �
       probes-lead w i m (probeFrom more w (i + 1) m') (probesAt (m .terms) (m .trial .x) i) (unprobedFrom more (m .terms) (m .trial .x) (i + 1)) h
       (from-leads more w (i + 1) m' (k .component w i zero64 m h))
 
-  to-leads : (w : Place) (i : ℕ) (v : Float) (m : Machine) → G w m → Q (unprobedFrom (m .terms .n - (i + 1)) (m .terms) (m .trial .x) (i + 1)) (probedTo w i v m)
+  to-leads : (w : Place) (i : ℕ) (v : Float) (m : Machine) → G w m
+      → Q (unprobedFrom (m .terms .n - (i + 1)) (m .terms) (m .trial .x) (i + 1)) (probedTo w i v m)
   to-leads w i v m h = from-leads (m .terms .n - (i + 1)) w (i + 1) (withComponent i v m) (k .component w i v m h)
 
   pub probed-leads :

@@ -66,8 +66,11 @@ from-first s (r ∷ rs) a d e = go (unreported (run s rs .phase)) refl (from-fir
     go false q h =
         let k = h q in
         let v = next-value s a rs r d q in
-        let w = k .0 in
-        (w, still-first (firstValue rs) (valueIn r) w (k .1), λ f. (v .0 .whole, le-trans (run s (r ∷ rs) .held .f) (run s rs .held .f) (toFloat w) (v .1) (k .2 f .1)))
+        let w = k .0 in (
+          w,
+          still-first (firstValue rs) (valueIn r) w (k .1),
+          λ f. (v .0 .whole, le-trans (run s (r ∷ rs) .held .f) (run s rs .held .f) (toFloat w) (v .1) (k .2 f .1)),
+        )
     go true q h =
         let none = start-asked-first s rs (d .1) (first-asked (run s rs .phase) r q (due-taken (run s rs) r (d .0))) in
         let k : Reported s (r ∷ rs) → FromFirst s (r ∷ rs) = rw none (first-itself s r) in

@@ -17,7 +17,8 @@ use Rattle.definition.specs.Geometry.{generalizedCauchy, primalMinimize}
 use Rattle.definition.specs.Counters.{Termination, firstCounters, valueLeft, iterationsSpent, chargeValue, chargeGradient, chargeIteration}
 use Rattle.definition.specs.Gradient.{Probes, probesAt, bothQuotient, rightQuotient, leftQuotient}
 use Rattle.definition.specs.Search.{Search, Verdict, beginSearch, trialPoint, orFailed, judge}
-use Rattle.definition.specs.Machine.{Reply, replyKind, broughtWords, firstWord, isValue, isFailure, State, Place, Side, Phase, Machine, state, made, inPhase, counting, holding, trying, withCompact, heading, searching, withRight, ending}
+use Rattle.definition.specs.Machine.{Reply, replyKind, broughtWords, firstWord, isValue, isFailure, State, Place, Side, Phase, Machine, state}
+use Rattle.definition.specs.Machine.{made, inPhase, counting, holding, trying, withCompact, heading, searching, withRight, ending}
 
 -- a value question, unless the budget is spent
 unfoldable pub askValue : Phase → Machine → Machine

@@ -132,7 +132,8 @@ module _ (m : Machine) (n : ℕ) (p : List Float) where
           let same : _≡_ {A = Question} (record { kind = k; point = take n p }) x = cc in
           subst (λ (y : Question). Returns (returnPoint room (y .kind) (y .point)) r out out′) same g
 
-pub fit-ended : (m : Machine) (room r : ℕ) (out out′ : List ℕ) → HasEnded m → Returns (returnEnd room m) r out out′ → Returns (returnFit room m (question m)) r out out′
+pub fit-ended : (m : Machine) (room r : ℕ) (out out′ : List ℕ) → HasEnded m → Returns (returnEnd room m) r out out′
+    → Returns (returnFit room m (question m)) r out out′
 fit-ended m room r out out′ e h = rw e h
 
 -- ---- what is read
@@ -162,7 +163,8 @@ module _ (a : List Float) (l : List ℕ) where
   few : (d : Reading) (c : Refusal) → ReadNumbered d → Taken d (A.Refused c) a l → c .number ≤ mostRefusal
   few (Reading.accepted b) c n h = absurd h
   few (Reading.refused k) c n h = omega (arith, ap (λ (x : P.Refusal). x .number) h, table-numbers (Call.restore []) (k .number) n .1)
-  few (Reading.refusedAtEntry k) c n h = omega (arith, ap (λ (x : P.Refusal). x .number) h, table-numbers (Call.restore []) (k .number) (restores (Reading.refusedAtEntry k) n) .1)
+  few (Reading.refusedAtEntry k) c n h =
+      omega (arith, ap (λ (x : P.Refusal). x .number) h, table-numbers (Call.restore []) (k .number) (restores (Reading.refusedAtEntry k) n) .1)
 
   pub read-few : (bs : List ℕ) (r : Answer) (c : Refusal) → r ≡ A.Refused c → Taken (readInput bs) r a l → c .number ≤ mostRefusal
   read-few bs r c e h = few (readInput bs) c (input-numbered bs) (subst (λ (x : Answer). Taken (readInput bs) x a l) e h)
@@ -172,5 +174,6 @@ module _ (a : List Float) (l : List ℕ) where
   refused (Reading.refused k) c room out h = record { number = ap (λ (x : P.Refusal). 100 + x .number) h; output = refl }
   refused (Reading.refusedAtEntry k) c room out h = record { number = ap (λ (x : P.Refusal). 100 + x .number) h; output = refl }
 
-  pub read-refused : (d : Reading) (r : Answer) (c : Refusal) (room : ℕ) (out : List ℕ) → r ≡ A.Refused c → Taken d r a l → Returns (returnOf room d) (100 + c .number) out out
+  pub read-refused : (d : Reading) (r : Answer) (c : Refusal) (room : ℕ) (out : List ℕ) → r ≡ A.Refused c → Taken d r a l
+      → Returns (returnOf room d) (100 + c .number) out out
   read-refused d r c room out e h = refused d c room out (subst (λ (x : Answer). Taken d x a l) e h)

@@ -43,7 +43,8 @@ fn put_point(out: &mut [u8], number: u64, point: &[f64], n: usize) -> u64
 // What stands in the output where nothing is asked: the held point, and nothing after a failure.
 fn ended(fit: Fit, area: &[f64], out: &mut [u8]) -> u64
     requires { ⌜ fit .shape .n ≤ inputCoordinates ⌝ }
-    ensures { λ r. ⌜ ((l : List ℕ) (b : Book) → Held (words fit (now (area .entry)) l) b → HasEnded (runOf b) → Returns (returnEnd (length (now (out .entry))) (runOf b)) r (now (out .entry)) (now (out .exit))) ⌝ }
+    ensures { λ r. ⌜ ((l : List ℕ) (b : Book) → Held (words fit (now (area .entry)) l) b → HasEnded (runOf b)
+        → Returns (returnEnd (length (now (out .entry))) (runOf b)) r (now (out .entry)) (now (out .exit))) ⌝ }
 {
     let mut point = [0.0f64; input::COORDINATES];
     let told = lbfgsb::report(fit, area, &mut point);
@@ -56,7 +57,8 @@ fn ended(fit: Fit, area: &[f64], out: &mut [u8]) -> u64
 // What stands in the output of a fit: the point of the open question, or the end's.
 fn answer(fit: Fit, area: &[f64], out: &mut [u8]) -> u64
     requires { ⌜ fit .shape .n ≤ inputCoordinates ⌝ }
-    ensures { λ r. ⌜ ((l : List ℕ) (b : Book) → Held (words fit (now (area .entry)) l) b → Returns (returnFit (length (now (out .entry))) (runOf b) (question (runOf b))) r (now (out .entry)) (now (out .exit))) ⌝ }
+    ensures { λ r. ⌜ ((l : List ℕ) (b : Book) → Held (words fit (now (area .entry)) l) b
+        → Returns (returnFit (length (now (out .entry))) (runOf b) (question (runOf b))) r (now (out .entry)) (now (out .exit))) ⌝ }
 {
     let mut point = [0.0f64; input::COORDINATES];
     let asked = lbfgsb::question(fit, area, &mut point);

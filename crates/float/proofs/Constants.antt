@@ -61,4 +61,19 @@ pub step-limit-is : toFloat 0x4202_a05f_2000_0000 ≡ stepLimit
 unfolding ofBits round
 step-limit-is = refl
 
-pub ruleset constants = (zero-is, neg-zero-is, one-is, two-is, half-is, epsilon-is, root-epsilon-is, cube-root-epsilon-is, pivot-threshold-is, default-ftol-is, default-gtol-is, c1-is, c2-is, step-limit-is)
+pub ruleset constants = (
+  zero-is,
+  neg-zero-is,
+  one-is,
+  two-is,
+  half-is,
+  epsilon-is,
+  root-epsilon-is,
+  cube-root-epsilon-is,
+  pivot-threshold-is,
+  default-ftol-is,
+  default-gtol-is,
+  c1-is,
+  c2-is,
+  step-limit-is,
+)

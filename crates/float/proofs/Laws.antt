@@ -1,4 +1,5 @@
--- Laws of floats and their words that the proofs of this crate cite: the test for a NaN, the words of NaNs and of magnitudes, the highest word; and one for callers of `dot`. Assumes nothing.
+-- Laws of floats and their words that the proofs of this crate cite: the test for a NaN, the words of NaNs
+-- and of magnitudes, the highest word; and one for callers of `dot`. Assumes nothing.
 use Prim.Native.Nat.{ℕ, zero, suc, _+_, _*_, _%_, _<_, _≤_, min}
 use native.Mathlib.Omega.{arith}
 use mathlib.Core.Path.{_≡_, refl, sym, ap, _∙_, subst}
@@ -60,7 +61,8 @@ word-of-abs (inf true) h = refl
 word-of-abs (inf false) h = refl
 word-of-abs (fin s m e) h = go s (word-of-negative m e) (toBits-lt binary64 (fin true m e) (sign-fits s true m e h))
   where
-    go : (s : Bool) → toWord (fin true m e) ≡ signBit + toWord (fin false m e) → toWord (fin true m e) < 0x1_0000_0000_0000_0000 → toWord (fin s m e) % signBit ≡ toWord (fin false m e)
+    go : (s : Bool) → toWord (fin true m e) ≡ signBit + toWord (fin false m e) → toWord (fin true m e) < 0x1_0000_0000_0000_0000
+        → toWord (fin s m e) % signBit ≡ toWord (fin false m e)
     go true h k = omega arith
     go false h k = omega arith
 

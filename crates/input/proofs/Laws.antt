@@ -32,7 +32,8 @@ taken-long bs c a l h e = rw (read-long bs h) e
 
 -- ---- one that is restored
 
-restored-taken : (d : Reading) (f : Fit) (r : Answer) (w : Words) (a : List Float) (l : List ℕ) → kept r ≡ restoredAnswer d → Restores d w (words (next f r) a l) → Taken d r a l
+restored-taken : (d : Reading) (f : Fit) (r : Answer) (w : Words) (a : List Float) (l : List ℕ) → kept r ≡ restoredAnswer d
+    → Restores d w (words (next f r) a l) → Taken d r a l
 restored-taken (Reading.accepted b) f (A.Kept g) w a l e h = h .held
 restored-taken (Reading.accepted b) f (A.Refused c) w a l e h = let z : _≡_ {A = ℕ} 0 1 = cc in omega arith
 restored-taken (Reading.refused k) f (A.Kept g) w a l e h = let z : _≡_ {A = ℕ} 0 1 = cc in omega arith

@@ -168,7 +168,8 @@ pub descend-again : {t r : Fit} {size : ℕ} {a b d : List Float} {ok : Bool} �
     → Steps withoutPairs t b r d → Steps descend t a r d
 descend-again {t} {a = a} {b = b} s o e z h =
     let v = view a (t .shape .n) in
-    steps-as (steps-then (stays s o) h) (by-retry (machineOf t a) (no-ends (view b (t .shape .n)) e (ends-are t a o)) (λ q. z (sym (pairs-count (t .shape) v) ∙ q)))
+    steps-as (steps-then (stays s o) h)
+    (by-retry (machineOf t a) (no-ends (view b (t .shape .n)) e (ends-are t a o)) (λ q. z (sym (pairs-count (t .shape) v) ∙ q)))
 
 -- ---- the pairs dropped
 

@@ -57,7 +57,11 @@ turn-to m oldest p l r = go (ltb p oldest) refl
     go : (t : Bool) → ltb p oldest ≡ t → Turn m oldest p
     go false e =
         let b = ltb-false p oldest e in
-        record { pair = p - oldest; few = omega (arith, b, l, r); is = by-wrap m (oldest + (p - oldest)) (λ x y. omega (arith, b, y)) (λ x y. omega (arith, b, r, x)) }
+        record {
+          pair = p - oldest;
+          few = omega (arith, b, l, r);
+          is = by-wrap m (oldest + (p - oldest)) (λ x y. omega (arith, b, y)) (λ x y. omega (arith, b, r, x));
+        }
     go true e =
         let b = ltb-true p oldest e in
         record {
@@ -242,4 +246,5 @@ one-is (Ieee.fin s m x) p e =
 pub mark-same :
     {w v : Words} → Agree w v → Binary64 (word (w .area) (markAt (w .state .shape))) → Binary64 (word (v .area) (markAt (v .state .shape)))
     → word (w .area) (markAt (w .state .shape)) ≡ word (v .area) (markAt (v .state .shape))
-mark-same {w} {v} h p q = one-is (word (w .area) (markAt (w .state .shape))) p (h .mark .0) ∙ sym (one-is (word (v .area) (markAt (v .state .shape))) q (h .mark .1))
+mark-same {w} {v} h p q =
+    one-is (word (w .area) (markAt (w .state .shape))) p (h .mark .0) ∙ sym (one-is (word (v .area) (markAt (v .state .shape))) q (h .mark .1))

@@ -125,7 +125,8 @@ module _ (from to : ℕ) (l : List ℕ) (order : from ≤ to) (room : to ≤ len
 
   struck-front : take from (struckOut from to l) ≡ take from l
   struck-front =
-      ap (take from) (append-assoc (take from l) (replicate (to - from) 0) (drop to l)) ∙ take-at (take from l) (replicate (to - from) 0 ++ drop to l) from front-long
+      ap (take from) (append-assoc (take from l) (replicate (to - from) 0) (drop to l))
+      ∙ take-at (take from l) (replicate (to - from) 0 ++ drop to l) from front-long
 
 module _ (t : Fit) (a : List Float) (l : List ℕ) (j : ℕ) (test : isHeld t a ≡ true) (few : j ≤ t .extra .entries) (room : t .extra .words ≤ length l) where
   abbrev was : Words

@@ -7,7 +7,8 @@ use mathlib.Core.Option.{Option, none, some}
 use native.Mathlib.Omega.{arith}
 use Rattle.definition.specs.Problem.{Setup, Check, dimension, either}
 use Rattle.definition.specs.Counters.{Termination}
-use Rattle.definition.specs.Machine.{Reply, Question, Report, Place, Phase, firstWord, isValue, isFailure, kindOf, unreported, question as questionOf, reportNow as reportOf}
+use Rattle.definition.specs.Machine.{Reply, Question, Report, Place, Phase, firstWord, isValue, isFailure}
+use Rattle.definition.specs.Machine.{kindOf, unreported, question as questionOf, reportNow as reportOf}
 use Rattle.definition.specs.Driver.{begin, run}
 use Rattle.definition.specs.Replies.{Accepted, Due, countOf, firstValue}
 use Rattle.definition.specs.Points.{Reported}

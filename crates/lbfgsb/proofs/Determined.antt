@@ -193,11 +193,13 @@ module _ (w v : Words) (e : machineIn w ≡ machineIn v) where
       ∙ pair-at (v .state .shape) (view (v .area) (v .state .shape .n)) k (subst (λ (x : ℕ). k < x) same-pairs l)
 
 module _ (w v : Words) (d : setupOf w ≡ setupOf v) where
-  same-float : (f : Options → MaybeFloat) (g : P.Setup → Option Float) → g (setupOf w) ≡ floatOf (f (w .state .options)) → g (setupOf v) ≡ floatOf (f (v .state .options))
+  same-float : (f : Options → MaybeFloat) (g : P.Setup → Option Float) → g (setupOf w) ≡ floatOf (f (w .state .options))
+      → g (setupOf v) ≡ floatOf (f (v .state .options))
       → f (w .state .options) ≡ f (v .state .options)
   same-float f g p q = apart floatOf floatBack float-back (f (w .state .options)) (f (v .state .options)) (sym p ∙ ap g d ∙ q)
 
-  same-count : (f : Options → MaybeCount) (g : P.Setup → Option ℕ) → g (setupOf w) ≡ countOf (f (w .state .options)) → g (setupOf v) ≡ countOf (f (v .state .options))
+  same-count : (f : Options → MaybeCount) (g : P.Setup → Option ℕ) → g (setupOf w) ≡ countOf (f (w .state .options))
+      → g (setupOf v) ≡ countOf (f (v .state .options))
       → f (w .state .options) ≡ f (v .state .options)
   same-count f g p q = apart countOf countBack count-back (f (w .state .options)) (f (v .state .options)) (sym p ∙ ap g d ∙ q)
 

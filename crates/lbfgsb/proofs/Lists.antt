@@ -20,7 +20,8 @@ use Rattle.definition.specs.Machine.{Question, question as questionOf, reportNo
 use Rattle.definition.specs.Book.{Book, openedBook, runOf, logOf, entryAt}
 use Rattle.definition.specs.Record.{Lengths, Reading, plainRefusal, checkArea, readRecord, recordWords, recordBytes}
 use Rattle.definition.specs.Sound.{Sound}
-use Rattle.definition.specs.History.{Call, Answer, History, checkQuestion, leftBy, refusedBy, restored, restoredAnswer, historyStep, historyAnswer, historyAfter, historyAnswers}
+use Rattle.definition.specs.History.{Call, Answer, History, checkQuestion, leftBy, refusedBy, restored}
+use Rattle.definition.specs.History.{restoredAnswer, historyStep, historyAnswer, historyAfter, historyAnswers}
 use Rattle.definition.proofs.Tests.{first-true}
 use Rattle.definition.proofs.Histories.{isRead, read-stays, history-sound}
 use Rattle.driver.specs.Replies.{isHeld, markAt, marked, isReady}
@@ -43,7 +44,8 @@ zero-unmarked (Ieee.fin s m x) e =
     let h = eqb-true (m * Ieee.up x * 1) (0 * Ieee.down x)
     (first-true (eqb (m * Ieee.up x * 1) (0 * Ieee.down x)) (Bool·beq s false || eqb (m * Ieee.up x * 1) 0) e) in
     let k = down-pos x in
-    and-no-left (eqb (m * Ieee.up x * 1) (1 * Ieee.down x)) (Bool·beq s false || eqb (m * Ieee.up x * 1) 0) (ne-eqb (m * Ieee.up x * 1) (1 * Ieee.down x) (λ q. omega arith))
+    and-no-left (eqb (m * Ieee.up x * 1) (1 * Ieee.down x)) (Bool·beq s false || eqb (m * Ieee.up x * 1) 0)
+    (ne-eqb (m * Ieee.up x * 1) (1 * Ieee.down x) (λ q. omega arith))
 
 pub blank-unheld : (w : Words) → Blank w → Holds w History.empty
 unfolding isHeld Ieee.eq
@@ -143,7 +145,8 @@ module _ {D : Call → Words → Words → Answer → Type 0} (known : Known D) 
   sized (Chain.call d ds) = sized ds ∙ known .did d .sized
 
   -- from words that hold a history
-  pub from : {w w' : Words} {cs : List Call} {os : List Answer} → Chain D w cs os w' → (z : Lengths) (h : History) → lengths w ≡ z → Holds w h → After z h cs os w'
+  pub from : {w w' : Words} {cs : List Call} {os : List Answer} → Chain D w cs os w' → (z : Lengths) (h : History) → lengths w ≡ z → Holds w h
+      → After z h cs os w'
   unfolding historyAfter historyAnswers
   from Chain.end z h q k = record { holds = k; said = refl; sized = q }
   from (Chain.call {c} {cs} {o} {os} {w} {w'} d ds) z h q k =

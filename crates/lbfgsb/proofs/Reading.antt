@@ -28,7 +28,8 @@ use Rattle.driver.specs.Replies.{isHeld}
 use Rattle.lbfgsb.specs.Words.{Words, words}
 use Rattle.lbfgsb.specs.Bridge.{firstOf}
 use Rattle.lbfgsb.specs.Did.{Written, taken, Read, Counted}
-use Rattle.lbfgsb.specs.Table.{questionOf, questionAnswer, reportAnswer, repliesAnswer, frontEntry, entryIn, entryKept, shortLog, entryAnswer, recordIn, saveAnswer}
+use Rattle.lbfgsb.specs.Table.{questionOf, questionAnswer, reportAnswer, repliesAnswer, frontEntry}
+use Rattle.lbfgsb.specs.Table.{entryIn, entryKept, shortLog, entryAnswer, recordIn, saveAnswer}
 use Rattle.lookup.specs.Reading.{Begins}
 use Rattle.lookup.proofs.Entries.{entry-words, entry-room}
 use Rattle.lbfgsb.proofs.Firsts.{first-taken}
@@ -107,13 +108,15 @@ module _ (t : Fit) (a : List Float) (l : List ℕ) (out : List Float) where
   questioned e h = record { said = λ g k. e ∙ question-said (words t a l) (length out) g k; always = e; written = h }
 
   -- the answer for a held fit, by its question
-  question-held : isHeld t a ≡ true → {q : Option M.Question} → M.question (machineOf t a) ≡ q → questionOf (words t a l) (length out) q ≡ questionAnswer (words t a l) (length out)
+  question-held : isHeld t a ≡ true → {q : Option M.Question} → M.question (machineOf t a) ≡ q
+      → questionOf (words t a l) (length out) q ≡ questionAnswer (words t a l) (length out)
   question-held h {q} e =
       ap (questionOf (words t a l) (length out)) (sym e)
       ∙ sym (on (isHeld t a) (questionOf (words t a l) (length out) (M.question (machineOf t a))) (H.Answer.asked none) h)
 
   pub question-unheld : isHeld t a ≡ false → Questioned (H.Answer.asked none) out
-  question-unheld h = questioned (sym (off (isHeld t a) (questionOf (words t a l) (length out) (M.question (machineOf t a))) (H.Answer.asked none) h)) (untouched out)
+  question-unheld h =
+      questioned (sym (off (isHeld t a) (questionOf (words t a l) (length out) (M.question (machineOf t a))) (H.Answer.asked none) h)) (untouched out)
 
   pub question-ended : isHeld t a ≡ true → M.kindOf (phaseOf (t .phase)) ≡ 0 → Questioned (H.Answer.asked none) out
   question-ended h k = questioned (question-held h (ended (machineOf t a) (phaseOf (t .phase)) k)) (untouched out)
@@ -129,7 +132,8 @@ module _ (t : Fit) (a : List Float) (l : List ℕ) (out : List Float) where
       questioned (ap H.Answer.refused e ∙ sym (short (length out) (t .shape .n) (H.Answer.asked (some (q .q))) s) ∙ question-held h (q .is)) (untouched out)
 
   pub question-put : (kind : ℕ) (out′ : List Float) → isHeld t a ≡ true → (kind ≡ 0 → ⊥) → t .shape .n ≤ length out → kind ≡ M.kindOf (phaseOf (t .phase))
-      → out′ ≡ written (pointAsked (M.question (machineOf t a))) out → Questioned (H.Answer.asked (some (record { kind = kind; point = take (t .shape .n) out′ }))) out′
+      → out′ ≡ written (pointAsked (M.question (machineOf t a))) out
+      → Questioned (H.Answer.asked (some (record { kind = kind; point = take (t .shape .n) out′ }))) out′
   question-put kind out′ h k r e d =
       let u = question-open h (λ z. k (e ∙ z)) in
       let p = u .q .point in
@@ -154,7 +158,8 @@ module _ (t : Fit) (a : List Float) (l : List ℕ) (out : List Float) where
 
   pub report-unheld : (c : Refusal) → isHeld t a ≡ false → refusalOf c ≡ plainRefusal 15 → Reported (H.Answer.refused (refusalOf c)) out
   report-unheld c h e =
-      reported (ap H.Answer.refused e ∙ sym (off (isHeld t a) (reportFrom (length out) (t .shape .n) (machineOf t a)) (H.Answer.refused (plainRefusal 15)) h)) (untouched out)
+      reported (ap H.Answer.refused e ∙ sym (off (isHeld t a) (reportFrom (length out) (t .shape .n) (machineOf t a)) (H.Answer.refused (plainRefusal 15)) h))
+      (untouched out)
 
   report-held : {o : H.Answer} (b : Bool) → isHeld t a ≡ true → M.unreported (phaseOf (t .phase)) ≡ b
       → o ≡ refusedBy (when b (refuse 15 0 0) then outputShort (length out) (t .shape .n)) (H.Answer.reported (M.reportNow (machineOf t a)))
@@ -165,7 +170,8 @@ module _ (t : Fit) (a : List Float) (l : List ℕ) (out : List Float) where
       (sym u)
       ∙ sym (on (isHeld t a) (reportFrom (length out) (t .shape .n) (machineOf t a)) (H.Answer.refused (plainRefusal 15)) h)
 
-  pub report-none : (c : Refusal) → isHeld t a ≡ true → M.unreported (phaseOf (t .phase)) ≡ true → refusalOf c ≡ plainRefusal 15 → Reported (H.Answer.refused (refusalOf c)) out
+  pub report-none : (c : Refusal) → isHeld t a ≡ true → M.unreported (phaseOf (t .phase)) ≡ true → refusalOf c ≡ plainRefusal 15
+      → Reported (H.Answer.refused (refusalOf c)) out
   report-none c h u e = reported (report-held true h u (ap H.Answer.refused e)) (untouched out)
 
   pub report-short : (c : Refusal) → isHeld t a ≡ true → M.unreported (phaseOf (t .phase)) ≡ false → length out < t .shape .n

@@ -43,7 +43,8 @@ restored-holds w w' (Reading.accepted b) r h k = r .held
 restored-holds w w' (Reading.refused c) r h k = subst (λ (x : Words). Holds x h) (sym r) k
 restored-holds w w' (Reading.refusedAtEntry c) r h k = subst (λ (x : Words). Holds x History.empty) (sym r) (zeroed-unheld (w .state) (length (w .area)))
 
-restores : (bs : List ℕ) (w w' : Words) (o : H.Answer) (d : Reading) → readRecord (lengths w) bs ≡ d → lengths w' ≡ lengths w → o ≡ restoredAnswer d → Restores d w w'
+restores : (bs : List ℕ) (w w' : Words) (o : H.Answer) (d : Reading) → readRecord (lengths w) bs ≡ d → lengths w' ≡ lengths w → o ≡ restoredAnswer d
+    → Restores d w w'
     → Restored bs w w' o
 restores bs w w' o d e z a r =
     let always = a ∙ ap restoredAnswer (sym e) in
@@ -58,12 +59,14 @@ restores bs w w' o d e z a r =
     }
 
 -- ahead of the entries: every word stays
-restore-refused : (bs : List ℕ) (w : Words) (c : Q.Refusal) → readRecord (lengths w) bs ≡ Reading.refused (refusalOf c) → Restored bs w w (H.Answer.refused (refusalOf c))
+restore-refused : (bs : List ℕ) (w : Words) (c : Q.Refusal) → readRecord (lengths w) bs ≡ Reading.refused (refusalOf c)
+    → Restored bs w w (H.Answer.refused (refusalOf c))
 restore-refused bs w c e = restores bs w w (H.Answer.refused (refusalOf c)) (Reading.refused (refusalOf c)) e refl refl refl
 
 -- ---- by the answer of the checks ahead of the entries
 
-pub parsed-refused : (bs : List ℕ) (w : Words) (p : Parsed) (c : Q.Refusal) → p ≡ D.Refused c → Parsing bs (length (w .area)) p → Restored bs w w (H.Answer.refused (refusalOf c))
+pub parsed-refused : (bs : List ℕ) (w : Words) (p : Parsed) (c : Q.Refusal) → p ≡ D.Refused c → Parsing bs (length (w .area)) p
+    → Restored bs w w (H.Answer.refused (refusalOf c))
 parsed-refused bs w p c e h = restore-refused bs w c (subst (Parsing bs (length (w .area))) e h (length (w .log)))
 
 pub parsed-opens : (bs : List ℕ) (size : ℕ) (p : Parsed) (o : Options) (f : Frame) → p ≡ D.Setup o f → Parsing bs size p → Opens bs size o f
@@ -142,7 +145,8 @@ module _ (bs : List ℕ) (g : Fit) (a : List Float) (l : List ℕ) (o : Options)
   built-restored : (q : Replayed) (b : List Float) (m : List ℕ) → Builds (setup bs (length a) o f h) (entries bs (length a) o f h) limit (length l) a q b
       → Reloads q bs f l m → Restored bs (words g a l) (words (nextBy g q) b m) (keptBy q)
   built-restored (R.Done t) b m k z = subst (λ (x : List ℕ). Restored bs (words g a l) (words t b x) H.Answer.done) (sym z) (restore-kept t b k)
-  built-restored (R.Refused i) b m k z = subst (λ (x : List ℕ). Restored bs (words g a l) (words g b x) (H.Answer.refused (plainRefusal i))) (sym z) (restore-zeroed i b k)
+  built-restored (R.Refused i) b m k z =
+      subst (λ (x : List ℕ). Restored bs (words g a l) (words g b x) (H.Answer.refused (plainRefusal i))) (sym z) (restore-zeroed i b k)
 
   pub answered-restored : (q : Replayed) (p : Answer) (b : List Float) (m : List ℕ) → ((t : Fit) → next t p ≡ nextBy t q) × (kept p ≡ keptBy q)
       → Builds (setup bs (length a) o f h) (entries bs (length a) o f h) limit (length l) a q b × Reloads q bs f l m

@@ -48,7 +48,8 @@ abbrev pub reportFrom : ℕ → ℕ → M.Machine → H.Answer
 reportFrom room n m = refusedBy (when (M.unreported (m .phase)) (refuse 15 0 0) then outputShort room n) (H.Answer.reported (M.reportNow m))
 
 pub report-said : (w : Words) (room : ℕ) (h : History) → Holds w h → reportAnswer w room ≡ historyAnswer (lengths w) h (Call.report room)
-report-said w room History.empty h = off (isHeld (w .state) (w .area)) (reportFrom room (w .state .shape .n) (machineIn w)) (H.Answer.refused (plainRefusal 15)) h
+report-said w room History.empty h =
+    off (isHeld (w .state) (w .area)) (reportFrom room (w .state .shape .n) (machineIn w)) (H.Answer.refused (plainRefusal 15)) h
 report-said w room (History.fit b) h =
     on (isHeld (w .state) (w .area)) (reportFrom room (w .state .shape .n) (machineIn w)) (H.Answer.refused (plainRefusal 15)) (h .stands .test)
     ∙ ap₂ (reportFrom room) (coordinates h) (h .stands .is)

@@ -115,7 +115,8 @@ pub data Called : Call → Words → Words → Answer → Type 0 where
       → Called (Call.takeBack (a .1 .1 .1 .0))
       (words (a .0) (now (a .1 .0)) (now (a .1 .1 .0))) (words (next (a .0) z) (now (e .1 .0)) (now (e .1 .1 .0))) (kept z)
   by-question :
-      (κs : Lfts 2) (a : Dens κs question-kinds.ps) (z : resT question-kinds.r κs .Denot) (e : AtExit (endedOf 2 question-kinds.ps question-kinds.r) κs) (log : List ℕ)
+      (κs : Lfts 2) (a : Dens κs question-kinds.ps) (z : resT question-kinds.r κs .Denot) (e : AtExit (endedOf 2 question-kinds.ps question-kinds.r) κs)
+      (log : List ℕ)
       → question-reads.Learnt κs a z e
       → Called (Call.question (length (now (a .1 .1 .0))))
       (words (a .0) (now (a .1 .0)) log) (words (a .0) (now (a .1 .0)) log) (asked z (a .0 .shape .n) (now (e .1 .1 .0)))
@@ -125,7 +126,8 @@ pub data Called : Call → Words → Words → Answer → Type 0 where
       → Called (Call.report (length (now (a .1 .1 .0))))
       (words (a .0) (now (a .1 .0)) log) (words (a .0) (now (a .1 .0)) log) (told z (a .0 .shape .n) (now (e .1 .1 .0)))
   by-replies :
-      (κs : Lfts 1) (a : Dens κs replies-kinds.ps) (z : resT replies-kinds.r κs .Denot) (e : AtExit (endedOf 1 replies-kinds.ps replies-kinds.r) κs) (log : List ℕ)
+      (κs : Lfts 1) (a : Dens κs replies-kinds.ps) (z : resT replies-kinds.r κs .Denot) (e : AtExit (endedOf 1 replies-kinds.ps replies-kinds.r) κs)
+      (log : List ℕ)
       → replies-reads.Learnt κs a z e
       → Called Call.replies (words (a .0) (now (a .1 .0)) log) (words (a .0) (now (a .1 .0)) log) (Answer.counted z)
   by-entry :
@@ -167,7 +169,8 @@ known = record { did = λ d. did d; opening = λ d. opening d }
 
 -- 2. Every list
 
-pub from : {w w' : Words} {cs : List Call} {os : List Answer} → Chain Called w cs os w' → (z : Lengths) (h : History) → lengths w ≡ z → Holds w h → After z h cs os w'
+pub from : {w w' : Words} {cs : List Call} {os : List Answer} → Chain Called w cs os w' → (z : Lengths) (h : History) → lengths w ≡ z → Holds w h
+    → After z h cs os w'
 from = lists.from known
 
 -- what calls find in words that hold a fit

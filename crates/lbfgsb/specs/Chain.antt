@@ -119,7 +119,8 @@ pub record Demand (D : Call → Words → Words → Answer → Type 0) (w : Word
   pub keeps : (b : Book) → historyAfter (lengths w) History.empty cs ≡ History.fit b → Keeps D w' b
   pub empty : historyAfter (lengths w) History.empty cs ≡ History.empty → KeepsNone D w'
   -- whatever list is called next is answered from the history
-  pub further : {ds : List Call} {ps : List Answer} {v : Words} → Chain D w' ds ps v → ps ≡ historyAnswers (lengths w) (historyAfter (lengths w) History.empty cs) ds
+  pub further : {ds : List Call} {ps : List Answer} {v : Words} → Chain D w' ds ps v
+      → ps ≡ historyAnswers (lengths w) (historyAfter (lengths w) History.empty cs) ds
 
 -- What the words w hold of the book b, its replies in the order in which they were given. That an accepted reply is added at the end of them, that a
 -- taking back of j strikes the last j, and what an entry is in that order: `InOrder b` of the definition, a part of it here.

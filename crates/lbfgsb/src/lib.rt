@@ -65,7 +65,9 @@ pub fn start(
     lower: &[f64],
     upper: &[f64],
 ) -> Answer
-    ensures { λ r. ⌜ ((l : List ℕ) → Started (setupIn o (now (x0 .entry)) (now (lower .entry)) (now (upper .entry))) (words fit (now (area .entry)) l) (words (next fit r) (now (area .exit)) l) (kept r)) ⌝ }
+    ensures { λ r. ⌜ ((l : List ℕ)
+        → Started (setupIn o (now (x0 .entry)) (now (lower .entry)) (now (upper .entry))) (words fit (now (area .entry)) l)
+        (words (next fit r) (now (area .exit)) l) (kept r)) ⌝ }
 {
     let check = accept::check_start(o, x0, lower, upper, area.len());
     match check {
@@ -82,7 +84,8 @@ pub fn start(
 // The reply to the open question; the words of a gradient beside it, which no other reply looks at. Its entry stands in the log behind the last.
 // Refused: 13 where no fit is held, it has ended or the kind is not due; 14 by the gradient's length; 12 where the log has no room for the entry.
 pub fn reply(fit: Fit, area: &mut [f64], log: &mut [u64], said: Reply, gradient: &[u64]) -> Answer
-    ensures { λ r. ⌜ Replied (replied said (now (gradient .entry))) (words fit (now (area .entry)) (now (log .entry))) (words (next fit r) (now (area .exit)) (now (log .exit))) (kept r) ⌝ }
+    ensures { λ r. ⌜ Replied (replied said (now (gradient .entry))) (words fit (now (area .entry)) (now (log .entry)))
+        (words (next fit r) (now (area .exit)) (now (log .exit))) (kept r) ⌝ }
 {
     if !driver::is_held(fit, area) {
         return Answer::Refused(refusal(13, 0));
@@ -130,7 +133,8 @@ pub fn take_back(fit: Fit, area: &mut [f64], log: &mut [u64], j: usize) -> Answe
 // Document 01's reading in: the fit of a record, in place of what the words held; the record's entries are copied into the log.
 // Refused: 17, 18, 17, 1 to 10 and 11 by the record (docs/RECORD.md has each); then, entry by entry, 17 and 12, and then the area is all zero.
 pub fn restore(fit: Fit, area: &mut [f64], log: &mut [u64], input: &[u8]) -> Answer
-    ensures { λ r. ⌜ Restored (now (input .entry)) (words fit (now (area .entry)) (now (log .entry))) (words (next fit r) (now (area .exit)) (now (log .exit))) (kept r) ⌝ }
+    ensures { λ r. ⌜ Restored (now (input .entry)) (words fit (now (area .entry)) (now (log .entry))) (words (next fit r) (now (area .exit)) (now (log .exit)))
+        (kept r) ⌝ }
 {
     let parsed = record::check(input, area.len());
     match parsed {
@@ -144,7 +148,9 @@ pub fn restore(fit: Fit, area: &mut [f64], log: &mut [u64], input: &[u8]) -> Ans
 // The open question: its kind, and its point in the front of the output. Nothing where no fit is held or it has ended.
 // Refused: 19 where a question is open and the output has fewer than n floats.
 pub fn question(fit: Fit, area: &[f64], out: &mut [f64]) -> Asked
-    ensures { λ r. ⌜ ((l : List ℕ) → Read (Call.question (length (now (out .entry)))) (words fit (now (area .entry)) l) (asked r (fit .shape .n) (now (out .exit))) (now (out .entry)) (now (out .exit))) ⌝ }
+    ensures { λ r. ⌜ ((l : List ℕ)
+        → Read (Call.question (length (now (out .entry)))) (words fit (now (area .entry)) l) (asked r (fit .shape .n) (now (out .exit))) (now (out .entry))
+        (now (out .exit))) ⌝ }
 {
     if !driver::is_held(fit, area) {
         return Asked::Nothing;
@@ -165,7 +171,9 @@ pub fn question(fit: Fit, area: &[f64], out: &mut [f64]) -> Asked
 // The report, its point in the front of the output.
 // Refused: 15 where no fit is held, there is no value reply yet or the objective failed; 19 where the output has fewer than n floats.
 pub fn report(fit: Fit, area: &[f64], out: &mut [f64]) -> Told
-    ensures { λ r. ⌜ ((l : List ℕ) → Read (Call.report (length (now (out .entry)))) (words fit (now (area .entry)) l) (told r (fit .shape .n) (now (out .exit))) (now (out .entry)) (now (out .exit))) ⌝ }
+    ensures { λ r. ⌜ ((l : List ℕ)
+        → Read (Call.report (length (now (out .entry)))) (words fit (now (area .entry)) l) (told r (fit .shape .n) (now (out .exit))) (now (out .entry))
+        (now (out .exit))) ⌝ }
 {
     if !driver::is_held(fit, area) {
         return Told::Refused(refusal(15, 0));
@@ -195,7 +203,8 @@ pub fn replies(fit: Fit, area: &[f64]) -> usize
 // The words of entry k, from 0 the oldest, in the front of the output; none where there is no such entry or no fit is held.
 // Refused: 12 where the log is shorter than its entries; 19 where the output is shorter than this one.
 pub fn entry(fit: Fit, area: &[f64], log: &[u64], k: usize, out: &mut [u64]) -> Wrote
-    ensures { λ r. ⌜ Read (Call.entry k (length (now (out .entry)))) (words fit (now (area .entry)) (now (log .entry))) (entered r (now (out .exit))) (now (out .entry)) (now (out .exit)) ⌝ }
+    ensures { λ r. ⌜ Read (Call.entry k (length (now (out .entry)))) (words fit (now (area .entry)) (now (log .entry))) (entered r (now (out .exit)))
+        (now (out .entry)) (now (out .exit)) ⌝ }
 {
     if !driver::is_held(fit, area) {
         return Wrote::Is(0);
@@ -220,7 +229,8 @@ pub fn entry(fit: Fit, area: &[f64], log: &[u64], k: usize, out: &mut [u64]) -> 
 // The record of setup and log, in bytes in the front of the output; nothing where no fit is held.
 // Refused: 12 where the log is shorter than its entries; 19 where the output is shorter than the record.
 pub fn save(fit: Fit, area: &[f64], log: &[u64], out: &mut [u8]) -> Wrote
-    ensures { λ r. ⌜ Read (Call.save (length (now (out .entry)))) (words fit (now (area .entry)) (now (log .entry))) (saved r (now (out .exit))) (now (out .entry)) (now (out .exit)) ⌝ }
+    ensures { λ r. ⌜ Read (Call.save (length (now (out .entry)))) (words fit (now (area .entry)) (now (log .entry))) (saved r (now (out .exit)))
+        (now (out .entry)) (now (out .exit)) ⌝ }
 {
     if !driver::is_held(fit, area) {
         return Wrote::Is(0);

@@ -50,7 +50,8 @@ front-taken n (k ∷ ws) = go (eqb (entrySize k n) 0) (ltb (1 + length ws) (entr
     empty : frontEntry n (k ∷ ws) ≡ [] → frontEntry n (k ∷ ws) ≡ take (length (frontEntry n (k ∷ ws))) (k ∷ ws)
     empty e = e ∙ ap (λ (l : List ℕ). take (length l) (k ∷ ws)) (sym e)
 
-    go : (a b : Bool) → eqb (entrySize k n) 0 ≡ a → ltb (1 + length ws) (entrySize k n) ≡ b → frontEntry n (k ∷ ws) ≡ take (length (frontEntry n (k ∷ ws))) (k ∷ ws)
+    go : (a b : Bool) → eqb (entrySize k n) 0 ≡ a → ltb (1 + length ws) (entrySize k n) ≡ b
+        → frontEntry n (k ∷ ws) ≡ take (length (frontEntry n (k ∷ ws))) (k ∷ ws)
     go true b e f = empty (front-none n k ws (inl (eqb-true (entrySize k n) 0 e)))
     go false true e f = empty (front-none n k ws (inr (ltb-true (1 + length ws) (entrySize k n) f)))
     go false false e f =
@@ -201,7 +202,8 @@ entry-room n k log words at size r b e =
 
 -- ---- words copied into the front of a slice
 
-copied-next : {A : Type 0} (i : ℕ) (vs z : List A) (d : A) → i < length vs → i < length z → set (take i vs ++ drop i z) i (getD vs i d) ≡ take (suc i) vs ++ drop (suc i) z
+copied-next : {A : Type 0} (i : ℕ) (vs z : List A) (d : A) → i < length vs → i < length z
+    → set (take i vs ++ drop i z) i (getD vs i d) ≡ take (suc i) vs ++ drop (suc i) z
 copied-next i [] z d h l = absurd (omega arith)
 copied-next i (v ∷ vs) [] d h l = absurd (omega arith)
 copied-next zero (v ∷ vs) (x ∷ z) d h l = refl
@@ -254,7 +256,8 @@ module _ (s : Setup) where
   own-front Reply.failure rs rest d = refl
 
   -- all of them skipped
-  log-skipped : (rs : List Reply) (j : ℕ) (rest : List ℕ) → Due s rs → entryIn (dimension s) (length rs + j) (logWords rs ++ rest) ≡ entryIn (dimension s) j rest
+  log-skipped : (rs : List Reply) (j : ℕ) (rest : List ℕ) → Due s rs
+      → entryIn (dimension s) (length rs + j) (logWords rs ++ rest) ≡ entryIn (dimension s) j rest
   unfolding logWords
   log-skipped [] j rest d = ap (λ (k : ℕ). entryIn (dimension s) k rest) (omega arith)
   log-skipped (r ∷ rs) j rest d =

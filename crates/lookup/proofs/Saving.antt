@@ -86,7 +86,8 @@ module _ (t : Fit) (a : List Float) (l : List ℕ) where
       × (8 * (setupSize (t .options .bounded) (length (lent (t .shape .n) a X0)) + length (take (t .extra .words - 0) l) + 4) ≤ size)
   record-lent h r f =
       let n = t .shape .n in
-      let parts : Savable (t .options) (lent n a X0) (lent n a Lower) (lent n a Upper) = rw (part-lent a X0 n, part-lent a Lower n, part-lent a Upper n) (h .savable) in
+      let parts : Savable (t .options) (lent n a X0) (lent n a Lower) (lent n a Upper)
+      = rw (part-lent a X0 n, part-lent a Lower n, part-lent a Upper n) (h .savable) in
       let long : length (lent n a X0) ≡ n = ap length (part-lent a X0 n) ∙ length-view a n X0 (omega (arith, h .room)) in
       let log : length (take (t .extra .words - 0) l) ≡ t .extra .words = length-take-le (t .extra .words - 0) l (omega arith) ∙ omega arith in
       (parts, rw (long, log) f)

@@ -63,7 +63,8 @@ pub fn copy_words(log: &[u64], from: usize, count: usize, out: &mut [u64])
 
 // The record of what state, area and log hold, into the front of an output slice.
 pub fn put_record(t: Fit, area: &[f64], log: &[u64], out: &mut [u8])
-    requires { ⌜ Placed t (now area) × (t .extra .words ≤ length (now log)) × (8 * (setupSize (t .options .bounded) (t .shape .n) + t .extra .words + 4) ≤ length (now out)) ⌝ }
+    requires { ⌜ Placed t (now area) × (t .extra .words ≤ length (now log))
+        × (8 * (setupSize (t .options .bounded) (t .shape .n) + t .extra .words + 4) ≤ length (now out)) ⌝ }
     ensures { λ _. ⌜ now (out .exit) ≡ writtenFirst (recordIn (words t (now (area .entry)) (now (log .entry)))) (now (out .entry)) ⌝ }
 {
     let n = t.shape.n;

@@ -27,7 +27,8 @@ unfolding fillOf rowwise
 box-opened n v e d f g = rw (f, g, e, d)
 
 pub first-made : (n : ℕ) (v : Vecs) {w₁ w₂ w₃ w₄ w₅ : Vecs}
-    → w₁ ≡ upd v X (clipped n v) → w₂ ≡ copyOf Trial X w₁ → w₃ ≡ fillOf n G zero64 w₂ → w₄ ≡ fillOf n TrialGradient zero64 w₃ → w₅ ≡ fillOf n Direction zero64 w₄
+    → w₁ ≡ upd v X (clipped n v) → w₂ ≡ copyOf Trial X w₁ → w₃ ≡ fillOf n G zero64 w₂ → w₄ ≡ fillOf n TrialGradient zero64 w₃
+    → w₅ ≡ fillOf n Direction zero64 w₄
     → w₅ ≡ firstVectors n v
 unfolding fillOf rowwise
 first-made n v a b c d e = rw (e, d, c, b, a)

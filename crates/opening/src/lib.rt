@@ -116,7 +116,8 @@ pub fn reset(o: Options, area: &mut [f64], n: usize) -> Fit
 
 // A setup's vectors into the area: the bounds only where they count.
 fn store_setup(area: &mut [f64], n: usize, bounded: bool, x0: &[f64], lower: &[f64], upper: &[f64])
-    requires { ⌜ (firstPair * n ≤ length (now area)) × (length (now x0) ≡ n) × (bounded ≡ true → length (now lower) ≡ n) × (bounded ≡ true → length (now upper) ≡ n) ⌝ }
+    requires { ⌜ (firstPair * n ≤ length (now area)) × (length (now x0) ≡ n) × (bounded ≡ true → length (now lower) ≡ n)
+        × (bounded ≡ true → length (now upper) ≡ n) ⌝ }
     ensures { λ _. ⌜ Stored bounded (now (x0 .entry)) (now (lower .entry)) (now (upper .entry)) (view (now (area .entry)) n) (view (now (area .exit)) n) ⌝ }
 {
     area::store(area, n, area::X0, x0);
@@ -129,7 +130,8 @@ fn store_setup(area: &mut [f64], n: usize, bounded: bool, x0: &[f64], lower: &[f
 // From a setup: no word of the area that is ever read stays from before.
 pub fn begin(o: Options, area: &mut [f64], x0: &[f64], lower: &[f64], upper: &[f64]) -> Fit
     requires { ⌜ Room o (length (now x0)) (length (now area)) × Fits o (length (now x0)) (now lower) (now upper) ⌝ }
-    ensures { λ r. ⌜ Opened o (length (now (x0 .entry))) (setupIn o (now (x0 .entry)) (now (lower .entry)) (now (upper .entry))) (now (area .entry)) r (now (area .exit)) ⌝ }
+    ensures { λ r. ⌜ Opened o (length (now (x0 .entry))) (setupIn o (now (x0 .entry)) (now (lower .entry)) (now (upper .entry))) (now (area .entry)) r
+        (now (area .exit)) ⌝ }
 {
     let n = x0.len();
     store_setup(area, n, o.bounded, x0, lower, upper);

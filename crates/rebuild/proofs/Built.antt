@@ -92,7 +92,8 @@ module _ (o : Options) (v : List Float) (n : ℕ) where
   parts-fit size k h =
       let start : length (take (n - 0) v) ≡ n = length-take-le (n - 0) v (omega arith) ∙ omega arith in
       let lower : length (take (2 * n - n) (drop n v)) ≡ n = length-take-le (2 * n - n) (drop n v) (omega (arith, length-drop n v)) ∙ omega arith in
-      let upper : length (take (3 * n - 2 * n) (drop (2 * n) v)) ≡ n = length-take-le (3 * n - 2 * n) (drop (2 * n) v) (omega (arith, length-drop (2 * n) v)) ∙ omega arith in
+      let upper : length (take (3 * n - 2 * n) (drop (2 * n) v)) ≡ n
+      = length-take-le (3 * n - 2 * n) (drop (2 * n) v) (omega (arith, length-drop (2 * n) v)) ∙ omega arith in
       (subst (λ (i : ℕ). Room o i size) (sym start) k, record { lower = λ e. lower ∙ sym start; upper = λ e. upper ∙ sym start })
 
   pub parts-opened : {a : List Float} {r : Fit} {b : List Float} → 3 * n ≤ length v
@@ -118,7 +119,8 @@ all-short r f count e l = rw (e, lt-ltb (f .extra .entries) count l)
 pub all-there : (r : Replayed) (f : Fit) (count : ℕ) → r ≡ R.Done f → count ≤ f .extra .entries → R.Done f ≡ allOf r count
 all-there r f count e l = rw (e, le-ltb (f .extra .entries) count l)
 
-pub markable-all : {t : Fit} {a : List Float} {ws : List ℕ} {limit room : ℕ} (r : Replayed) {b : List Float} → Replays t a ws limit room r b → Markable (allOf r limit) (length b)
+pub markable-all : {t : Fit} {a : List Float} {ws : List ℕ} {limit room : ℕ} (r : Replayed) {b : List Float} → Replays t a ws limit room r b
+    → Markable (allOf r limit) (length b)
 markable-all {limit = limit} (R.Done f) {b} h =
     by-test (λ (q : Replayed). Markable q (length b)) (ltb (f .extra .entries) limit) (λ e. tt) (λ e. h .kept .shape)
 markable-all (R.Refused c) h = tt
@@ -131,7 +133,8 @@ module _ {o : Options} {n : ℕ} {s : Setup} {t : Fit} {was a : List Float} (k :
     kept-setup : {f : Fit} {b : List Float} → Keeps t a ws limit room f b → setupAt (f .options) (view b (f .shape .n)) ≡ s
     kept-setup {f} {b} h =
         let x0 = ap (λ (i : ℕ). view b i X0) (h .n) ∙ h .saved .x0 in
-        setup-same (f .options) (view a (t .shape .n)) (view b (f .shape .n)) x0 (ap (λ (x : Terms). x .bounds .lower) (h .terms)) (ap (λ (x : Terms). x .bounds .upper) (h .terms))
+        setup-same (f .options) (view a (t .shape .n)) (view b (f .shape .n)) x0 (ap (λ (x : Terms). x .bounds .lower) (h .terms))
+        (ap (λ (x : Terms). x .bounds .upper) (h .terms))
         ∙ ap (λ (p : Options). setupAt p (view a (t .shape .n))) (h .options)
         ∙ opened-setup
 

@@ -43,7 +43,8 @@ pasting-more {A} {d} {at} {s} {b} {i} v z h l e =
           ∙ ap (paste d at s) next;
     }
 
-pub pasting-done : {A : Type 0} {d : List A} {at : ℕ} {s b : List A} {i : ℕ} → Pasting d at s b i → at + length s ≤ i → b ≡ take at d ++ s ++ drop (at + length s) d
+pub pasting-done : {A : Type 0} {d : List A} {at : ℕ} {s b : List A} {i : ℕ} → Pasting d at s b i → at + length s ≤ i
+    → b ≡ take at d ++ s ++ drop (at + length s) d
 pasting-done {A} {d} {at} {s} {b} {i} h l =
     let all : i - at ≡ length s = omega (arith, h .low, h .high) in
     h .is ∙ ap (paste d at s) all ∙ ap (λ (r : List A). take at d ++ r ++ drop (at + length s) d) (take-all (length s) s (omega arith))
@@ -83,7 +84,9 @@ striking-none d from to h l = record { order = h; turns = pasting-none d from (r
 
 pub striking-more : {d b : List ℕ} {from to i : ℕ} → Striking d from to b i → i < to → Striking d from to (set b i 0) (i + 1)
 striking-more {d} {b} {from} {to} {i} h l =
-    let more = pasting-more 0 0 (h .turns) (omega (arith, zeros-long (to - from), h .order)) (sym (getD-replicate {A = ℕ} (to - from) (i - from) 0 0 (omega (arith, h .turns .low)))) in
+    let more =
+    pasting-more 0 0 (h .turns) (omega (arith, zeros-long (to - from), h .order))
+    (sym (getD-replicate {A = ℕ} (to - from) (i - from) 0 0 (omega (arith, h .turns .low)))) in
     record { order = h .order; turns = more; long = more .long }
 
 pub striking-done : {d b : List ℕ} {from to i : ℕ} → Striking d from to b i → to ≤ i → b ≡ struckOut from to d
@@ -106,7 +109,8 @@ pub copying-more : {d b bs : List ℕ} {at count i w : ℕ} → Copying d bs at 
 copying-more {d} {b} {bs} {at} {count} {i} {w} h l e =
     let here : i ≡ i - 0 = omega arith in
     let more
-    = pasting-more w 0 (h .turns) (omega (arith, wordsOf-length count (drop at bs))) (e ∙ word-from bs at count i l ∙ ap (λ (k : ℕ). getD (wordsOf count (drop at bs)) k 0) here) in
+    = pasting-more w 0 (h .turns) (omega (arith, wordsOf-length count (drop at bs)))
+    (e ∙ word-from bs at count i l ∙ ap (λ (k : ℕ). getD (wordsOf count (drop at bs)) k 0) here) in
     record { turns = more; long = more .long }
 
 pub copying-done : {d b bs : List ℕ} {at count i : ℕ} → Copying d bs at count b i → count ≤ i → b ≡ headed (wordsOf count (drop at bs)) d

@@ -49,8 +49,13 @@ module _ (bs : List ℕ) (size : ℕ) (o : Options) (f : Frame) (h : Opens bs si
   opens-room =
       let l = accepted-in-limits setup (h .accepted) in
       let places : maxcorOf setup ≡ placesIn o = ap maxcorOf (h .same) in
-      let need : areaWords (f .n) (placesIn o) ≡ areaNeeded setup = needed bs f (h .placed) (h .whole) o (h .options) (placesIn o) (areaWords (f .n) (placesIn o)) refl refl in
-      record { all = enough (f .n) (placesIn o) size (omega (arith, need, h .room)); few = omega (arith, l .pairs, places); some = omega (arith, l .pairs, places) }
+      let need : areaWords (f .n) (placesIn o) ≡ areaNeeded setup
+      = needed bs f (h .placed) (h .whole) o (h .options) (placesIn o) (areaWords (f .n) (placesIn o)) refl refl in
+      record {
+        all = enough (f .n) (placesIn o) size (omega (arith, need, h .room));
+        few = omega (arith, l .pairs, places);
+        some = omega (arith, l .pairs, places);
+      }
     where
       enough : (n m size : ℕ) → areaWords n m ≤ size → vectors m * n ≤ size
       enough n m size k = omega arith

@@ -77,7 +77,8 @@ fn begin_from(o: Options, area: &mut [f64], v: &[f64], n: usize) -> Fit
 // The fit of the log's first `count` entries, no fewer, from the setup that state and area hold.
 fn replay_log(fit: Fit, area: &mut [f64], log: &[u64], count: usize) -> Replayed
     requires { ⌜ (isReady fit (length (now area)) ≡ true) × (fit .extra .words ≤ length (now log)) ⌝ }
-    ensures { λ o. ⌜ Stays (setupAt (fit .options) (view (now (area .entry)) (fit .shape .n))) (take (fit .extra .words) (now (log .entry))) count (length (now (log .entry))) (now (area .entry)) o (now (area .exit)) ⌝ }
+    ensures { λ o. ⌜ Stays (setupAt (fit .options) (view (now (area .entry)) (fit .shape .n))) (take (fit .extra .words) (now (log .entry))) count
+        (length (now (log .entry))) (now (area .entry)) o (now (area .exit)) ⌝ }
 {
     let o = fit.options;
     let t = opening::reset(o, area, fit.shape.n);
@@ -102,7 +103,8 @@ fn replay_record(
     f: record::Frame,
 ) -> Replayed
     requires { ⌜ Opens (now input) (length (now area)) o f ⌝ }
-    ensures { λ r. ⌜ Builds (setupRead (wordsIn (now (input .entry)) f)) (entriesIn (now (input .entry)) f) (f .words - f .setup) (length (now (log .entry))) (now (area .entry)) r (now (area .exit)) ⌝ }
+    ensures { λ r. ⌜ Builds (setupRead (wordsIn (now (input .entry)) f)) (entriesIn (now (input .entry)) f) (f .words - f .setup) (length (now (log .entry)))
+        (now (area .entry)) r (now (area .exit)) ⌝ }
 {
     let v = record::vectors(input, f);
     let t = begin_from(o, area, &v, f.n);
@@ -132,7 +134,9 @@ fn copy_entries(log: &mut [u64], input: &[u8], at: usize, count: usize)
 // The log's first `count` entries are kept: the fit of them, and the words of the others zeroed. Where one is refused the log stays.
 pub fn shorten(fit: Fit, area: &mut [f64], log: &mut [u64], count: usize) -> Replayed
     requires { ⌜ (isReady fit (length (now area)) ≡ true) × (fit .extra .words ≤ length (now log)) ⌝ }
-    ensures { λ r. ⌜ Stays (setupAt (fit .options) (view (now (area .entry)) (fit .shape .n))) (take (fit .extra .words) (now (log .entry))) count (length (now (log .entry))) (now (area .entry)) r (now (area .exit)) × Shortens r (fit .extra .words) (now (log .entry)) (now (log .exit)) ⌝ }
+    ensures { λ r. ⌜ Stays (setupAt (fit .options) (view (now (area .entry)) (fit .shape .n))) (take (fit .extra .words) (now (log .entry))) count
+        (length (now (log .entry))) (now (area .entry)) r (now (area .exit))
+        × Shortens r (fit .extra .words) (now (log .entry)) (now (log .exit)) ⌝ }
 {
     let built = replay_log(fit, area, log, count);
     let Replayed::Done(back) = built else {
@@ -151,7 +155,9 @@ pub fn reload(
     f: record::Frame,
 ) -> Replayed
     requires { ⌜ Opens (now input) (length (now area)) o f ⌝ }
-    ensures { λ r. ⌜ Builds (setupRead (wordsIn (now (input .entry)) f)) (entriesIn (now (input .entry)) f) (f .words - f .setup) (length (now (log .entry))) (now (area .entry)) r (now (area .exit)) × Reloads r (now (input .entry)) f (now (log .entry)) (now (log .exit)) ⌝ }
+    ensures { λ r. ⌜ Builds (setupRead (wordsIn (now (input .entry)) f)) (entriesIn (now (input .entry)) f) (f .words - f .setup) (length (now (log .entry)))
+        (now (area .entry)) r (now (area .exit))
+        × Reloads r (now (input .entry)) f (now (log .entry)) (now (log .exit)) ⌝ }
 {
     let built = replay_record(area, log, input, o, f);
     let Replayed::Done(read) = built else {

@@ -27,7 +27,14 @@ past-size k n = rw (past-other k 1 (omega arith), past-other k 2 (omega arith), 
 
 past-none : (n k : ℕ) (ws : List ℕ) → entryOf n (past k) ws ≡ none
 past-none n k ws =
-    rw (past-other k 1 (omega arith), past-other k 2 (omega arith), past-other k 3 (omega arith), past-other k 4 (omega arith), past-other k 5 (omega arith), past-other k 6 (omega arith))
+    rw (
+      past-other k 1 (omega arith),
+      past-other k 2 (omega arith),
+      past-other k 3 (omega arith),
+      past-other k 4 (omega arith),
+      past-other k 5 (omega arith),
+      past-other k 6 (omega arith),
+    )
 
 -- an unknown kind, or words that are cut
 pub entry-none : (n k : ℕ) (ws : List ℕ) → (entrySize k n ≡ 0) ⊎ (1 + length ws < entrySize k n) → entryOf n k ws ≡ none

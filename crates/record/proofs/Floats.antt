@@ -82,7 +82,8 @@ pub filling-more : {bs : List ℕ} {at count i w : ℕ} {v : List Float} {x : Fl
 filling-more {bs} {at} {count} {i} {w} {v} {x} h l m e f =
     let size : length (wordsOf i (drop at bs)) ≡ i = wordsOf-length i (drop at bs) in
     let next : wordsOf (suc i) (drop at bs) ≡ wordsOf i (drop at bs) ++ (w ∷ [])
-    = words-more i (drop at bs) ∙ ap (λ (l : List ℕ). wordsOf i (drop at bs) ++ (numberOf (take 8 l) ∷ [])) (drop-drop (8 * i) at bs) ∙ ap (λ (k : ℕ). wordsOf i (drop at bs) ++ (k ∷ [])) (sym e) in
+    = words-more i (drop at bs) ∙ ap (λ (l : List ℕ). wordsOf i (drop at bs) ++ (numberOf (take 8 l) ∷ [])) (drop-drop (8 * i) at bs)
+    ∙ ap (λ (k : ℕ). wordsOf i (drop at bs) ++ (k ∷ [])) (sym e) in
     record {
       reach = omega arith;
       is =
@@ -100,13 +101,15 @@ filling-done {bs} {at} {count} {i} {v} h l = let e : i ≡ count = omega (arith,
 -- words of a record, from the bytes of its word 7 on
 pub words-behind : (bs : List ℕ) (at k j : ℕ) → 7 ≤ j → j ≤ k → wordsOf (j - 7) (drop (at + 56) bs) ≡ take (j - 7) (drop 7 (wordsOf k (drop at bs)))
 words-behind bs at k j h l =
-    sym (ap (take (j - 7)) (words-drop 7 k (drop at bs) (omega arith) ∙ ap (wordsOf (k - 7)) (drop-drop 56 at bs)) ∙ words-take (j - 7) (k - 7) (drop (at + 56) bs) (omega arith))
+    sym (ap (take (j - 7)) (words-drop 7 k (drop at bs) (omega arith) ∙ ap (wordsOf (k - 7)) (drop-drop 56 at bs))
+    ∙ words-take (j - 7) (k - 7) (drop (at + 56) bs) (omega arith))
 
 -- n floats of the array from place j on are those of the words
 pub floats-part : (ws : List ℕ) (j n : ℕ) → j + n ≤ length ws → take n (drop j (floatsOf ws)) ≡ map toFloat (take n (drop j ws))
 unfolding floatsOf
 floats-part ws j n h =
-    ap (take n) (drop-append-le j (map toFloat ws) (replicate (768 - length ws) zero64) (omega (arith, length-map ws toFloat)) ∙ ap (λ (l : List Float). l ++ replicate (768 - length ws) zero64) (map-drop toFloat j ws))
+    ap (take n) (drop-append-le j (map toFloat ws) (replicate (768 - length ws) zero64) (omega (arith, length-map ws toFloat))
+    ∙ ap (λ (l : List Float). l ++ replicate (768 - length ws) zero64) (map-drop toFloat j ws))
     ∙ take-append-le n (map toFloat (drop j ws)) (replicate (768 - length ws) zero64) (omega (arith, length-map (drop j ws) toFloat, length-drop j ws))
     ∙ map-take toFloat n (drop j ws)
 
@@ -120,7 +123,8 @@ bounds-same : (t : Bool) {l l′ u u′ : List Float} → (t ≡ true → l ≡ 
 bounds-same true e f = ap₂ (λ (l u : List Float). P.boundsIn true l u) (e refl) (f refl)
 bounds-same false e f = refl
 
-setup-same : (o : Options) (x x′ l l′ u u′ : List Float) → x ≡ x′ → P.boundsIn (o .bounded) l u ≡ P.boundsIn (o .bounded) l′ u′ → P.setupIn o x l u ≡ P.setupIn o x′ l′ u′
+setup-same : (o : Options) (x x′ l l′ u u′ : List Float) → x ≡ x′ → P.boundsIn (o .bounded) l u ≡ P.boundsIn (o .bounded) l′ u′
+    → P.setupIn o x l u ≡ P.setupIn o x′ l′ u′
 setup-same o x x′ l l′ u u′ e f = rw (e, f)
 
 -- ---- a setup by the parts of the array
@@ -155,7 +159,8 @@ module _ (bs : List ℕ) (f : Frame) (h : Placed bs f) (whole : f .setup ≤ f .
   pub laid-setup : (o : Options) → OptionsIn (wordsIn bs f) o → setupFrom o laid (f .n) ≡ setupIn (wordsIn bs f)
   laid-setup o k =
       let same = rw (← h .n) at (options-setup (wordsIn bs f) o k) in
-      setup-same o _ _ _ _ _ _ laid-start (bounds-same (o .bounded) (λ e. laid-lower (sym (k .bounded) ∙ e)) (λ e. laid-upper (sym (k .bounded) ∙ e))) ∙ sym same
+      setup-same o _ _ _ _ _ _ laid-start (bounds-same (o .bounded) (λ e. laid-lower (sym (k .bounded) ∙ e)) (λ e. laid-upper (sym (k .bounded) ∙ e)))
+      ∙ sym same
 
   pub laid-most : f .n ≤ 255
   laid-most = omega (arith, h .n)

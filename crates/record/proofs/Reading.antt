@@ -13,7 +13,8 @@ use lib.Ieee.{Float}
 use Rattle.definition.specs.Number.{toFloat}
 use Rattle.definition.specs.Problem.{validate, _then_, orElse, areaNeeded, areaWords, maxcorOf}
 use Rattle.definition.specs.Log.{entriesOf}
-use Rattle.definition.specs.Record.{numberOf, wordsOf, sums, framed, malformed, nIn, maxcorIn, hasBox, setupLength, floatsAt, setupIn, checkArea, checkWords, unlessRefused, Reading, readingOf, readWords, readRecord, Lengths, plainRefusal}
+use Rattle.definition.specs.Record.{numberOf, wordsOf, sums, framed, malformed, nIn, maxcorIn, hasBox, setupLength, floatsAt, setupIn, checkArea}
+use Rattle.definition.specs.Record.{checkWords, unlessRefused, Reading, readingOf, readWords, readRecord, Lengths, plainRefusal}
 use Rattle.definition.proofs.Tests.{both-true, both-false}
 use Rattle.definition.proofs.Bytes.{wordsOf-length}
 use Rattle.definition.proofs.Accepted.{accepted-in-limits}
@@ -23,7 +24,8 @@ use Rattle.problem.specs.declared.Options.{Options}
 use Rattle.problem.specs.declared.Refusal as Q
 use Rattle.record.specs.declared.Frame.{Frame}
 use Rattle.record.specs.declared.Parsed.the-variants as A
-use Rattle.record.specs.Records.{trailerIn, framedIn, wordsIn, frameFrom, frameIn, Placed, sumsAgree, Formed, OptionsIn, setupBy, refusedBy, lengths, Opens, Parsing}
+use Rattle.record.specs.Records.{trailerIn, framedIn, wordsIn, frameFrom, frameIn, Placed, sumsAgree}
+use Rattle.record.specs.Records.{Formed, OptionsIn, setupBy, refusedBy, lengths, Opens, Parsing}
 
 -- ---- words by number
 
@@ -60,7 +62,8 @@ words-drop (suc j) (suc k) bs h =
 -- ---- the trailer
 
 -- word k of the trailer, which stands at byte j
-pub trailer-word : (bs : List ℕ) (k j w : ℕ) → 32 ≤ length bs → k < 4 → j + 32 ≡ length bs + 8 * k → w ≡ numberOf (take 8 (drop j bs)) → w ≡ getD (trailerIn bs) k 0
+pub trailer-word : (bs : List ℕ) (k j w : ℕ) → 32 ≤ length bs → k < 4 → j + 32 ≡ length bs + 8 * k → w ≡ numberOf (take 8 (drop j bs))
+    → w ≡ getD (trailerIn bs) k 0
 trailer-word bs k j w h l e f =
     let at : j ≡ length bs - 32 + 8 * k = omega arith in
     f ∙ ap (λ (i : ℕ). numberOf (take 8 (drop i bs))) at ∙ word-from bs (length bs - 32) 4 k l
@@ -171,7 +174,8 @@ pub unframed : (bs : List ℕ) (area : ℕ) → framedIn bs ≡ false → Parsin
 unfolding readRecord
 unframed bs area e room = go (ltb (length bs) 32) (framed (length bs) (trailerIn bs)) _ e
   where
-    go : (s t : Bool) (r : Reading) → (not s && t) ≡ false → cond s (Reading.refused (plainRefusal 17)) (cond t r (Reading.refused (plainRefusal 17))) ≡ Reading.refused (plainRefusal 17)
+    go : (s t : Bool) (r : Reading) → (not s && t) ≡ false
+        → cond s (Reading.refused (plainRefusal 17)) (cond t r (Reading.refused (plainRefusal 17))) ≡ Reading.refused (plainRefusal 17)
     go true t r e = refl
     go false false r e = refl
     go false true r e = cc
@@ -201,7 +205,19 @@ box-by false l u = refl
 pub options-setup : (ws : List ℕ) (o : Options) → OptionsIn ws o → setupIn ws ≡ setupBy ws o (nIn (getD ws 0 0))
 unfolding setupIn
 options-setup ws o h =
-    rw (h .bounded, h .maxiter, h .maxfev, h .tol, h .ftol, h .gtol, h .maxcor, h .eps, h .scheme, ← (box-by (hasBox (getD ws 0 0)) (floatsAt ws (7 + nIn (getD ws 0 0)) (nIn (getD ws 0 0))) (floatsAt ws (7 + 2 * nIn (getD ws 0 0)) (nIn (getD ws 0 0)))))
+    rw (
+      h .bounded,
+      h .maxiter,
+      h .maxfev,
+      h .tol,
+      h .ftol,
+      h .gtol,
+      h .maxcor,
+      h .eps,
+      h .scheme,
+      ← (box-by (hasBox (getD ws 0 0)) (floatsAt ws (7 + nIn (getD ws 0 0)) (nIn (getD ws 0 0)))
+          (floatsAt ws (7 + 2 * nIn (getD ws 0 0)) (nIn (getD ws 0 0)))),
+    )
 
 -- as many coordinates as word 0 says
 pub setup-vectors : (bs : List ℕ) (f : Frame) → Placed bs f → f .setup ≤ f .words → length (setupIn (wordsIn bs f) .x0) ≡ f .n
@@ -241,17 +257,20 @@ module _ (bs : List ℕ) (f : Frame) (k : Formed bs f) where
   formed-whole = form-whole bs f formed-placed (k .form)
 
   formed-reads : (z : Lengths) → readRecord z bs
-      ≡ unlessRefused (validate (setupIn (wordsIn bs f)) then checkArea z (setupIn (wordsIn bs f))) (readingOf (setupIn (wordsIn bs f)) (entriesOf (setupIn (wordsIn bs f)) (z .log) (drop (f .setup) (wordsIn bs f))))
+      ≡ unlessRefused (validate (setupIn (wordsIn bs f)) then checkArea z (setupIn (wordsIn bs f)))
+      (readingOf (setupIn (wordsIn bs f)) (entriesOf (setupIn (wordsIn bs f)) (z .log) (drop (f .setup) (wordsIn bs f))))
   unfolding readWords checkWords
   formed-reads z = read-words bs f (k .framed) (k .frame) z ∙ rw (k .sums, k .form, ← formed-placed .setup)
 
   pub rows-refused : (area : ℕ) (c : Q.Refusal) → some (refusalOf c) ≡ validate (setupIn (wordsIn bs f)) → Parsing bs area (A.Refused c)
   rows-refused area c e room = formed-reads (lengths area room) ∙ rw (← e)
 
-  pub area-refused : (area need : ℕ) → none ≡ validate (setupIn (wordsIn bs f)) → need ≡ areaNeeded (setupIn (wordsIn bs f)) → area < need → Parsing bs area (refusedBy 11 need)
+  pub area-refused : (area need : ℕ) → none ≡ validate (setupIn (wordsIn bs f)) → need ≡ areaNeeded (setupIn (wordsIn bs f)) → area < need
+      → Parsing bs area (refusedBy 11 need)
   area-refused area need e g l room = formed-reads (lengths area room) ∙ rw (← e, ← g, lt-ltb area need l)
 
-  pub opens : (area need : ℕ) (o : Options) → OptionsIn (wordsIn bs f) o → none ≡ validate (setupIn (wordsIn bs f)) → need ≡ areaNeeded (setupIn (wordsIn bs f)) → need ≤ area
+  pub opens : (area need : ℕ) (o : Options) → OptionsIn (wordsIn bs f) o → none ≡ validate (setupIn (wordsIn bs f)) → need ≡ areaNeeded (setupIn (wordsIn bs f))
+      → need ≤ area
       → Opens bs area o f
   opens area need o same e g l =
       let s = setupIn (wordsIn bs f) in

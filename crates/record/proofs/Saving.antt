@@ -63,12 +63,14 @@ second-at a b k n e h =
     let whole : length a + (k - n) ≡ k = omega arith in
     sym (getD-append-add a b (k - n) 0) ∙ ap (λ (i : ℕ). getD (a ++ b) i 0) whole
 
-pub bound-second : (l u : List Float) (k : ℕ) (d : Float) → length l ≤ k → k < length l + length u → toWord (getD u (k - length l) d) ≡ getD (map toWord l ++ map toWord u) k 0
+pub bound-second : (l u : List Float) (k : ℕ) (d : Float) → length l ≤ k → k < length l + length u
+    → toWord (getD u (k - length l) d) ≡ getD (map toWord l ++ map toWord u) k 0
 bound-second l u k d h m = float-word u (k - length l) d (omega arith) ∙ second-at (map toWord l) (map toWord u) k (length l) (length-map l toWord) h
 
 module _ (o : Options) (x0 l u : List Float) where
   pub head-at : (i : ℕ) → i < 7 → getD (headWords o (length x0)) i 0 ≡ getD (setupWords (P.setupIn o x0 l u)) i 0
-  head-at i h = sym (ap (λ (ws : List ℕ). getD ws i 0) (setup-spelled o x0 l u) ∙ List·getD-append (headWords o (length x0)) (map toWord x0 ++ sideWords o l u) 0 i h)
+  head-at i h =
+      sym (ap (λ (ws : List ℕ). getD ws i 0) (setup-spelled o x0 l u) ∙ List·getD-append (headWords o (length x0)) (map toWord x0 ++ sideWords o l u) 0 i h)
 
   pub start-at : (i : ℕ) (d : Float) → 7 ≤ i → i - 7 < length x0 → toWord (getD x0 (i - 7) d) ≡ getD (setupWords (P.setupIn o x0 l u)) i 0
   start-at i d h k =
@@ -195,7 +197,8 @@ writing-more {ws} {out₀} {out} {out′} {count} {i} {w} {t} {u} h l e f k =
           ap length (f ∙ ap (λ (k : ℕ). take (8 * i) out ++ bytesOf 8 w ++ drop k out) end)
           ∙ put-length out (8 * i) (bytesOf 8 w) (omega (arith, fits, h .long, bytes-count 8 w))
           ∙ h .long;
-      written = f ∙ word-behind out₀ out (take i ws) w (8 * i) (omega (arith, size)) fits (h .written) ∙ ap (λ (v : List ℕ). overwritten (bytes v) out₀) (sym next);
+      written =
+          f ∙ word-behind out₀ out (take i ws) w (8 * i) (omega (arith, size)) fits (h .written) ∙ ap (λ (v : List ℕ). overwritten (bytes v) out₀) (sym next);
       sums = k ∙ ap (added w) (h .sums) ∙ sym (sums-one (take i ws) w) ∙ ap sums (sym next);
     }
 
@@ -226,11 +229,14 @@ unfolding bytes
 trailer-put l p q r at a b c d h e f g =
     let eight : (w : ℕ) → length (bytesOf 8 w) ≡ 8 = bytes-count 8 in
     let two : length (bytesOf 8 a ++ bytesOf 8 b) ≡ 16 = omega (arith, length-append (bytesOf 8 a) (bytesOf 8 b), eight a, eight b) in
-    let three : length (bytesOf 8 a ++ bytesOf 8 b ++ bytesOf 8 c) ≡ 24 = omega (arith, length-append (bytesOf 8 a ++ bytesOf 8 b) (bytesOf 8 c), two, eight c) in
+    let three : length (bytesOf 8 a ++ bytesOf 8 b ++ bytesOf 8 c) ≡ 24
+    = omega (arith, length-append (bytesOf 8 a ++ bytesOf 8 b) (bytesOf 8 c), two, eight c) in
     let i : at + 8 + 8 ≡ at + 16 = omega arith in
     let j : at + 16 + 8 ≡ at + 24 = omega arith in
     let k : at + 24 + 8 ≡ at + 32 = omega arith in
-    let q-is = f ∙ words-put l p at (at + 8) (bytesOf 8 a) b (omega (arith, eight a)) (omega arith) e ∙ ap (λ (x : ℕ). take at l ++ (bytesOf 8 a ++ bytesOf 8 b) ++ drop x l) i in
+    let q-is =
+    f ∙ words-put l p at (at + 8) (bytesOf 8 a) b (omega (arith, eight a)) (omega arith) e
+    ∙ ap (λ (x : ℕ). take at l ++ (bytesOf 8 a ++ bytesOf 8 b) ++ drop x l) i in
     let r-is
     = g
     ∙ words-put l q at (at + 16) (bytesOf 8 a ++ bytesOf 8 b) c (omega (arith, two)) (omega arith) q-is

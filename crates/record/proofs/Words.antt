@@ -88,7 +88,8 @@ summing-none bs at count =
     let f : count - 0 ≡ count = omega arith in
     record { reach = omega arith; rest = ap₂ (λ (k n : ℕ). sums (wordsOf n (drop k bs))) e f }
 
-pub summing-more : {bs : List ℕ} {at count i : ℕ} {t u : Sums} {w : ℕ} → Summing bs at count i t → i < count → w ≡ numberOf (take 8 (drop (at + 8 * i) bs)) → u ≡ added w t
+pub summing-more : {bs : List ℕ} {at count i : ℕ} {t u : Sums} {w : ℕ} → Summing bs at count i t → i < count → w ≡ numberOf (take 8 (drop (at + 8 * i) bs))
+    → u ≡ added w t
     → Summing bs at count (i + 1) u
 unfolding wordsOf sumsFrom
 summing-more {bs} {at} {count} {i} {t} {u} {w} h l e f =

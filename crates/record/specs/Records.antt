@@ -12,7 +12,8 @@ use Rattle.definition.specs.Problem as D
 use Rattle.definition.specs.Problem.{validate, areaNeeded, mostCoordinates, orElse}
 use Rattle.definition.specs.Log.{entriesOf}
 use Rattle.definition.specs.Record as R
-use Rattle.definition.specs.Record.{wordsOf, framed, sameSums, malformed, nIn, maxcorIn, hasBox, schemeIn, setupLength, floatsAt, floatGiven, countGiven, optionalFloat, schemeFlag, Reading, readRecord, readingOf}
+use Rattle.definition.specs.Record.{wordsOf, framed, sameSums, malformed, nIn, maxcorIn, hasBox, schemeIn, setupLength, floatsAt}
+use Rattle.definition.specs.Record.{floatGiven, countGiven, optionalFloat, schemeFlag, Reading, readRecord, readingOf}
 use Rattle.problem.specs.declared.Options.{Options}
 use Rattle.problem.specs.Setups as P
 use Rattle.problem.specs.Setups.{floatOf, countOf, schemeOf, refusalOf}
@@ -124,7 +125,8 @@ pub record Opens (bs : List ℕ) (area : ℕ) (o : Options) (f : Frame) : Type 0
   pub same : R.setupIn (wordsIn bs f) ≡ setupBy (wordsIn bs f) o (f .n)
   pub accepted : validate (R.setupIn (wordsIn bs f)) ≡ none
   pub room : areaNeeded (R.setupIn (wordsIn bs f)) ≤ area
-  pub reads : (room : ℕ) → readRecord (lengths area room) bs ≡ readingOf (R.setupIn (wordsIn bs f)) (entriesOf (R.setupIn (wordsIn bs f)) room (drop (f .setup) (wordsIn bs f)))
+  pub reads : (room : ℕ)
+      → readRecord (lengths area room) bs ≡ readingOf (R.setupIn (wordsIn bs f)) (entriesOf (R.setupIn (wordsIn bs f)) room (drop (f .setup) (wordsIn bs f)))
 
 -- refused as the definition refuses, whatever the room in the log; or the setup stands
 abbrev pub Parsing : List ℕ → ℕ → Parsed → Type 0

@@ -16,7 +16,8 @@ ghost use Rattle.definition.specs.Record.{numberOf, bytesOf, wordsOf, sums as s
 ghost use Rattle.definition.specs.Record.{floatGiven, countGiven, hasBox, setupLength as setupLengthOf, schemeIn, setupIn, malformed};
 ghost use Rattle.definition.specs.Record.{optionalFloat, schemeFlag, setupWords, bytes};
 ghost use Rattle.problem.specs.Setups.{floatOf, countOf, schemeOf, checkOf, setupIn as setupOf};
-ghost use Rattle.record.specs.Records.{sumsOf, setupSize, entrySize, framedIn, frameIn, wordsIn, sumsAgree, Placed, Formed, ShapeIn, OptionsIn, floatsOf, setupFrom, refusedBy, Parsing};
+ghost use Rattle.record.specs.Records.{sumsOf, setupSize, entrySize, framedIn, frameIn, wordsIn, sumsAgree, Placed};
+ghost use Rattle.record.specs.Records.{Formed, ShapeIn, OptionsIn, floatsOf, setupFrom, refusedBy, Parsing};
 ghost use Rattle.record.specs.Records.{shapeOf, headWords, Savable, savedWords, savedRecord, Summed, trailerOf, overwritten};
 
 // The one version that is read and written.
@@ -563,7 +564,8 @@ fn put_words(
     out: &mut [u8],
 ) -> Sums
     requires { ⌜ Savable o (now x0) (now lower) (now upper) × (8 * (setupSize (o .bounded) (length (now x0)) + length (now log)) ≤ length (now out)) ⌝ }
-    ensures { λ r. ⌜ Summed (savedWords o (now (x0 .entry)) (now (lower .entry)) (now (upper .entry)) (now (log .entry))) (now (out .entry)) r (now (out .exit)) ⌝ }
+    ensures { λ r. ⌜ Summed (savedWords o (now (x0 .entry)) (now (lower .entry)) (now (upper .entry)) (now (log .entry))) (now (out .entry)) r
+        (now (out .exit)) ⌝ }
 {
     let count = setup_words(o, x0.len()) + log.len();
     let mut t = Sums {
@@ -595,7 +597,8 @@ fn put_trailer(out: &mut [u8], t: Sums, count: usize)
 // The record of a setup and a log, from the first byte of `out` on; what is behind it stays.
 pub fn write(o: Options, x0: &[f64], lower: &[f64], upper: &[f64], log: &[u64], out: &mut [u8])
     requires { ⌜ Savable o (now x0) (now lower) (now upper) × (8 * (setupSize (o .bounded) (length (now x0)) + length (now log) + 4) ≤ length (now out)) ⌝ }
-    ensures { λ _. ⌜ now (out .exit) ≡ overwritten (bytes (savedRecord o (now (x0 .entry)) (now (lower .entry)) (now (upper .entry)) (now (log .entry)))) (now (out .entry)) ⌝ }
+    ensures { λ _. ⌜ now (out .exit)
+        ≡ overwritten (bytes (savedRecord o (now (x0 .entry)) (now (lower .entry)) (now (upper .entry)) (now (log .entry)))) (now (out .entry)) ⌝ }
 {
     let t = put_words(o, x0, lower, upper, log, out);
     let count = setup_words(o, x0.len()) + log.len();

@@ -1,4 +1,4 @@
--- Laws of a script. Assumes nothing.
+-- Laws of a script: the part that a call names, one call, the calls by number, one more of them, and the whole from an allowed start. Assumes nothing.
 use Prim.Native.Nat.{ℕ, zero, suc, _+_, _-_, _*_, _/_, _≤_, _<_}
 use mathlib.Core.Path.{_≡_, refl, sym, ap, _∙_, subst}
 use mathlib.Core.Bool.{Bool, true, false, cond}
@@ -35,7 +35,8 @@ use Rattle.lbfgsb.specs.declared.Told.{Told}
 use Rattle.lbfgsb.specs.declared.Told.the-variants as T
 use Rattle.lbfgsb.specs.declared.Wrote.{Wrote}
 use Rattle.lbfgsb.specs.declared.Wrote.the-variants as W
-use Rattle.script.specs.Script.{partOf, spanOf, Spans, Given, given, callOf, called, calledAt, calls, unrunAs, ranAs, askedAs, toldAs, enteredAs, savedAs, shown, lastOf, Shows, Runs}
+use Rattle.script.specs.Script.{partOf, spanOf, Spans, Given, given, callOf, called, calledAt, calls, unrunAs}
+use Rattle.script.specs.Script.{ranAs, askedAs, toldAs, enteredAs, savedAs, shown, lastOf, Shows, Runs}
 use Rattle.script.specs.declared.Shown.{Shown}
 use Rattle.script.specs.declared.Ran.{Ran}
 use Rattle.script.specs.declared.Called.{Called}
@@ -142,7 +143,8 @@ unfoldable pub callsTo : Given → List ℕ → ℕ → List Call
 callsTo g s zero = []
 callsTo g s (suc i) = callsTo g s i ++ (callAt g s i ∷ [])
 
-called-same : (s : List ℕ) (x x' y y' z z' : ℕ) → x ≡ x' → y ≡ y' → z ≡ z' → called (getD s x 0) (getD s y 0) (getD s z 0) ≡ called (getD s x' 0) (getD s y' 0) (getD s z' 0)
+called-same : (s : List ℕ) (x x' y y' z z' : ℕ) → x ≡ x' → y ≡ y' → z ≡ z'
+    → called (getD s x 0) (getD s y 0) (getD s z 0) ≡ called (getD s x' 0) (getD s y' 0) (getD s z' 0)
 called-same s x x' y y' z z' p q r =
     ap (λ (k : ℕ). called (getD s k 0) (getD s y 0) (getD s z 0)) p
     ∙ ap (λ (k : ℕ). called (getD s x' 0) (getD s k 0) (getD s z 0)) q
@@ -224,7 +226,8 @@ pub ran-more :
     → Runs (callsTo g s i) w w' o → Shows (callOf g' k) w' w'' o' → Runs (callsTo g s (i + 1)) w w'' o'
 unfolding callsTo
 ran-more g g' s i k w w' w'' o o' e q r d =
-    rw add-one (ran-one (callsTo g s i) (callAt g s i) w w' w'' o o' r (subst (λ (x : Call). Shows x w' w'' o') (ap (callOf g') q ∙ ap (λ (x : Given). callAt x s i) e) d))
+    rw add-one
+    (ran-one (callsTo g s i) (callAt g s i) w w' w'' o o' r (subst (λ (x : Call). Shows x w' w'' o') (ap (callOf g') q ∙ ap (λ (x : Given). callAt x s i) e) d))
 
 -- all calls, from the state given
 pub ran-all :

@@ -8,7 +8,8 @@ ghost use Rattle.problem.specs.Setups.{setupIn};
 ghost use Rattle.lbfgsb.specs.Words.{words};
 ghost use Rattle.lbfgsb.specs.Bridge.{replied, next, kept};
 ghost use Rattle.lbfgsb.specs.Did.{Stepped};
-ghost use Rattle.script.specs.Script.{Spans, partOf, replyAt, changeOf, pointOf, readOf, given, callOf, calledAt, unrunAs, ranAs, askedAs, toldAs, enteredAs, savedAs, shown, calls, Shows, Runs};
+ghost use Rattle.script.specs.Script.{Spans, partOf, replyAt, changeOf, pointOf, readOf, given, callOf, calledAt, unrunAs};
+ghost use Rattle.script.specs.Script.{ranAs, askedAs, toldAs, enteredAs, savedAs, shown, calls, Shows, Runs};
 use driver::Reply;
 use fit::Fit;
 use lbfgsb::Answer;
@@ -107,7 +108,8 @@ fn reply_at(op: u64, a: u64) -> Reply
 // ---- calls that change the words
 
 fn replied_with(c: Called, gradients: &[u64], fit: Fit, area: &mut [f64], log: &mut [u64]) -> Answer
-    ensures { λ r. ⌜ Stepped (Call.reply (replied (replyAt (c .op) (c .a)) (partOf (c .a) (c .b) (now (gradients .entry))))) (words fit (now (area .entry)) (now (log .entry))) (words (next fit r) (now (area .exit)) (now (log .exit))) (kept r) ⌝ }
+    ensures { λ r. ⌜ Stepped (Call.reply (replied (replyAt (c .op) (c .a)) (partOf (c .a) (c .b) (now (gradients .entry)))))
+        (words fit (now (area .entry)) (now (log .entry))) (words (next fit r) (now (area .exit)) (now (log .exit))) (kept r) ⌝ }
 {
     let s = span_of(c.a, c.b, gradients.len());
     let from = s.from;
@@ -117,7 +119,8 @@ fn replied_with(c: Called, gradients: &[u64], fit: Fit, area: &mut [f64], log: &
 }
 
 fn restored_from(c: Called, input: &[u8], fit: Fit, area: &mut [f64], log: &mut [u64]) -> Answer
-    ensures { λ r. ⌜ Stepped (Call.restore (partOf (c .a) (c .b) (now (input .entry)))) (words fit (now (area .entry)) (now (log .entry))) (words (next fit r) (now (area .exit)) (now (log .exit))) (kept r) ⌝ }
+    ensures { λ r. ⌜ Stepped (Call.restore (partOf (c .a) (c .b) (now (input .entry)))) (words fit (now (area .entry)) (now (log .entry)))
+        (words (next fit r) (now (area .exit)) (now (log .exit))) (kept r) ⌝ }
 {
     let s = span_of(c.a, c.b, input.len());
     let from = s.from;
@@ -138,7 +141,8 @@ fn changed(
     area: &mut [f64],
     log: &mut [u64],
 ) -> Answer
-    ensures { λ r. ⌜ Stepped (changeOf (setupIn o (now (x0 .entry)) (now (lower .entry)) (now (upper .entry))) (now (gradients .entry)) (now (input .entry)) c) (words fit (now (area .entry)) (now (log .entry))) (words (next fit r) (now (area .exit)) (now (log .exit))) (kept r) ⌝ }
+    ensures { λ r. ⌜ Stepped (changeOf (setupIn o (now (x0 .entry)) (now (lower .entry)) (now (upper .entry))) (now (gradients .entry)) (now (input .entry)) c)
+        (words fit (now (area .entry)) (now (log .entry))) (words (next fit r) (now (area .exit)) (now (log .exit))) (kept r) ⌝ }
 {
     let op = c.op;
     if op == 0 {
@@ -209,7 +213,9 @@ fn saved_as(w: Wrote) -> Shown
 
 // Op 9, the question, or the report.
 fn pointed(op: u64, fit: Fit, area: &[f64], point: &mut [f64]) -> Shown
-    ensures { λ r. ⌜ ((l f b : List ℕ) → Shows (pointOf (length (now (point .entry))) op) (words fit (now (area .entry)) l) (words fit (now (area .entry)) l) (shown r (fit .shape .n) (now (point .exit)) f b)) ⌝ }
+    ensures { λ r. ⌜ ((l f b : List ℕ)
+        → Shows (pointOf (length (now (point .entry))) op) (words fit (now (area .entry)) l) (words fit (now (area .entry)) l)
+        (shown r (fit .shape .n) (now (point .exit)) f b)) ⌝ }
 {
     if op == 9 {
         let q = lbfgsb::question(fit, area, point);
@@ -229,7 +235,9 @@ fn read(
     found: &mut [u64],
     bytes: &mut [u8],
 ) -> Shown
-    ensures { λ r. ⌜ Shows (readOf (length (now (point .entry))) (length (now (found .entry))) (length (now (bytes .entry))) c) (words fit (now (area .entry)) (now (log .entry))) (words fit (now (area .entry)) (now (log .entry))) (shown r (fit .shape .n) (now (point .exit)) (now (found .exit)) (now (bytes .exit))) ⌝ }
+    ensures { λ r. ⌜ Shows (readOf (length (now (point .entry))) (length (now (found .entry))) (length (now (bytes .entry))) c)
+        (words fit (now (area .entry)) (now (log .entry))) (words fit (now (area .entry)) (now (log .entry)))
+        (shown r (fit .shape .n) (now (point .exit)) (now (found .exit)) (now (bytes .exit))) ⌝ }
 {
     let op = c.op;
     if op < 11 {
@@ -264,7 +272,11 @@ fn step(
     found: &mut [u64],
     bytes: &mut [u8],
 ) -> Ran
-    ensures { λ r. ⌜ Shows (callOf (given (setupIn o (now (x0 .entry)) (now (lower .entry)) (now (upper .entry))) (now (gradients .entry)) (now (input .entry)) (length (now (point .entry))) (length (now (found .entry))) (length (now (bytes .entry)))) c) (words (ran .fit) (now (area .entry)) (now (log .entry))) (words (r .fit) (now (area .exit)) (now (log .exit))) (shown (r .last) (r .fit .shape .n) (now (point .exit)) (now (found .exit)) (now (bytes .exit))) ⌝ }
+    ensures { λ r. ⌜ Shows (callOf (given (setupIn o (now (x0 .entry)) (now (lower .entry)) (now (upper .entry))) (now (gradients .entry)) (now (input .entry))
+        (length (now (point .entry))) (length (now (found .entry))) (length (now (bytes .entry))))
+        c)
+        (words (ran .fit) (now (area .entry)) (now (log .entry))) (words (r .fit) (now (area .exit)) (now (log .exit)))
+        (shown (r .last) (r .fit .shape .n) (now (point .exit)) (now (found .exit)) (now (bytes .exit))) ⌝ }
 {
     let fit = ran.fit;
     if c.op < 9 {
@@ -309,7 +321,11 @@ pub fn run_script(
     found: &mut [u64],
     bytes: &mut [u8],
 ) -> Ran
-    ensures { λ r. ⌜ Runs (calls (given (setupIn o (now (x0 .entry)) (now (lower .entry)) (now (upper .entry))) (now (gradients .entry)) (now (input .entry)) (length (now (point .entry))) (length (now (found .entry))) (length (now (bytes .entry)))) (now (script .entry))) (words fit (now (area .entry)) (now (log .entry))) (words (r .fit) (now (area .exit)) (now (log .exit))) (shown (r .last) (r .fit .shape .n) (now (point .exit)) (now (found .exit)) (now (bytes .exit))) ⌝ }
+    ensures { λ r. ⌜ Runs (calls (given (setupIn o (now (x0 .entry)) (now (lower .entry)) (now (upper .entry))) (now (gradients .entry)) (now (input .entry))
+        (length (now (point .entry))) (length (now (found .entry))) (length (now (bytes .entry))))
+        (now (script .entry)))
+        (words fit (now (area .entry)) (now (log .entry))) (words (r .fit) (now (area .exit)) (now (log .exit)))
+        (shown (r .last) (r .fit .shape .n) (now (point .exit)) (now (found .exit)) (now (bytes .exit))) ⌝ }
 {
     let mut ran = unrun(fit);
     let mut i = 0;

@@ -180,7 +180,8 @@ tested k true false false s = refl
 tested k false z true s = refl
 tested k false z false s = refl
 
-pub factors-solve : {n : ℕ} {a : Matrix} {ok : Bool} {t f : Matrix} {p : List ℕ} (b : List Float) → Factored n a ok t f p → solvedWith n ok t f p b ≡ solve n a b
+pub factors-solve : {n : ℕ} {a : Matrix} {ok : Bool} {t f : Matrix} {p : List ℕ} (b : List Float) → Factored n a ok t f p
+    → solvedWith n ok t f p b ≡ solve n a b
 unfolding solvedWith solve
 factors-solve {n} {a} {ok} {t} {f} {p} b r =
     let s = scaleOf n a in

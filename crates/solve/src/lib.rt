@@ -63,7 +63,8 @@ struct Best {
 // Of rows best and i the one with the larger entry in column k, and row i where they are level.
 fn larger(a: &[[f64; 32]; 32], k: usize, best: Best, i: usize) -> Best
     requires { ⌜ (k < 32) × (i < 32) × (best .size ≡ toWord (absOf (entry (now a) (best .row) k))) ⌝ }
-    ensures { λ r. ⌜ (r .row ≡ cond (magnitudeLe (entry (now (a .entry)) (best .row) k) (entry (now (a .entry)) i k)) i (best .row)) × (r .size ≡ toWord (absOf (entry (now (a .entry)) (r .row) k))) ⌝ }
+    ensures { λ r. ⌜ (r .row ≡ cond (magnitudeLe (entry (now (a .entry)) (best .row) k) (entry (now (a .entry)) i k)) i (best .row))
+        × (r .size ≡ toWord (absOf (entry (now (a .entry)) (r .row) k))) ⌝ }
 {
     let size = float::float_to_word(float::abs(a[i][k]));
     if best.size <= size {
@@ -116,7 +117,8 @@ fn less_row(a: &mut [[f64; 32]; 32], p: &[f64; 32], n: usize, f: f64, k: usize, 
 // Row i, less the multiple of row k that clears its entry in column k. Row k is lent as p; the answer is the multiplier.
 fn less_pivot(a: &mut [[f64; 32]; 32], p: &[f64; 32], n: usize, k: usize, i: usize) -> f64
     requires { ⌜ (k < i) × (i < n) × (n ≤ 32) × (row (now a) k ≡ now p) ⌝ }
-    ensures { λ r. ⌜ (r ≡ over (entry (now (a .entry)) i k) (entry (now (a .entry)) k k)) × (now (a .exit) ≡ lessRow n r (now (a .entry)) k i) × (row (now (a .exit)) k ≡ row (now (a .entry)) k) ⌝ }
+    ensures { λ r. ⌜ (r ≡ over (entry (now (a .entry)) i k) (entry (now (a .entry)) k k)) × (now (a .exit) ≡ lessRow n r (now (a .entry)) k i)
+        × (row (now (a .exit)) k ≡ row (now (a .entry)) k) ⌝ }
 {
     let f = a[i][k] / a[k][k];
     less_row(a, p, n, f, k, i);

@@ -129,7 +129,8 @@ four-is size p a e =
     ∙ each-grid size (f 3) (λ i j. f 2 i j (f 1 i j (f 0 i j (g i j)))))
 
 -- row c put
-rows-put : (size : ℕ) (p : Matrix) (c : ℕ) (r : List Float) (a : Matrix) → c < length p → addRows size (set p c r) (suc c) a ≡ each size (productTo r) (addRows size p c a)
+rows-put : (size : ℕ) (p : Matrix) (c : ℕ) (r : List Float) (a : Matrix) → c < length p
+    → addRows size (set p c r) (suc c) a ≡ each size (productTo r) (addRows size p c a)
 unfolding foldTo
 rows-put size p c r a l =
     ap (λ (x : List Float). each size (productTo x) (addRows size (set p c r) c a)) (getD-set-same p c r [] l)
@@ -139,7 +140,8 @@ rows-put size p c r a l =
 abbrev Pushes : Shape → (ℕ → Float) → Matrix → ℕ → Matrix → Matrix → ℕ → Matrix → Type 0
 Pushes h w p c a q d b = Held (2 * h .pairs) q d b × (addRows (2 * h .pairs) q d b ≡ addFree h w (addRows (2 * h .pairs) p c a))
 
-pub push-none : (h : Shape) (w : ℕ → Float) (p : Matrix) (c : ℕ) (a : Matrix) (t : Bool) → t ≡ freeIn w → not t ≡ true → Held (2 * h .pairs) p c a → Pushes h w p c a p c a
+pub push-none : (h : Shape) (w : ℕ → Float) (p : Matrix) (c : ℕ) (a : Matrix) (t : Bool) → t ≡ freeIn w → not t ≡ true → Held (2 * h .pairs) p c a
+    → Pushes h w p c a p c a
 push-none h w p c a t e d k = (k, rw (sym e ∙ not-true t d))
 
 pub push-more : (h : Shape) (w : ℕ → Float) (p : Matrix) (c : ℕ) (a : Matrix) (r : List Float) (t : Bool) → t ≡ freeIn w → not t ≡ false → r ≡ columnsIn h w
@@ -186,7 +188,8 @@ sums-are h (suc n) v =
 
 -- and the reduced matrix from them
 pub reduced-are : {h : Shape} {theta : Float} {m : Matrix} {v : Vecs} (a : Matrix) {b : Matrix} → Modelled h theta m v
-    → a ≡ grid (2 * h .pairs) (λ i j. freeSumAt (h .n) v (columnSlot h i) (columnSlot h j)) → b ≡ foldTo (2 * h .pairs) (λ i c. rowEach (2 * h .pairs) (reducedBy theta m i) i c) a
+    → a ≡ grid (2 * h .pairs) (λ i j. freeSumAt (h .n) v (columnSlot h i) (columnSlot h j))
+    → b ≡ foldTo (2 * h .pairs) (λ i c. rowEach (2 * h .pairs) (reducedBy theta m i) i c) a
     → b ≡ paddedRows (compactOf h theta v) (reducedAt h theta v)
 reduced-are {h} {theta} {m} {v} a r e s =
     let size = 2 * h .pairs in

@@ -101,5 +101,6 @@ added-done {h} {theta} {z} {k} {o} {a} {b} w e r l =
     (tab-same (h .n) (addedOf h z a k) (correction (compactOf h theta o) z)
     (λ i m.
     rw (pairs-count h o, ← K)
-    (fold-same k (λ j s. plus s (times (word (a (columnSlot h j)) i) (word z j))) (λ j s. plus s (times (columnWord (compactOf h theta o) j i) (word z j))) negZero
+    (fold-same k (λ j s. plus s (times (word (a (columnSlot h j)) i) (word z j))) (λ j s. plus s (times (columnWord (compactOf h theta o) j i) (word z j)))
+    negZero
     (λ j s n. ap (λ (y : Float). plus s (times y (word z j))) (column j i n m)))))

@@ -13,13 +13,15 @@ use Rattle.definition.specs.Vector.{tab, word, difference, allFinite, _andThen_
 use Rattle.definition.specs.Solve.{Matrix}
 use Rattle.definition.specs.Compact.{count, product}
 use Rattle.definition.specs.Geometry.{free, freeSteps, correction, stepsWithPairs, moved, movedBy, onFree, primalMinimize}
-use Rattle.area.specs.Area.{Vecs, upd, rowwise, given, copyOf, differenceOf, firstFree, ScratchOnly, X, G, Lower, Upper, Displacement, Cauchy, Target, ProductD, ProductZ, Step}
+use Rattle.area.specs.Area.{Vecs, upd, rowwise, given, copyOf, differenceOf, firstFree, ScratchOnly, X, G}
+use Rattle.area.specs.Area.{Lower, Upper, Displacement, Cauchy, Target, ProductD, ProductZ, Step}
 use Rattle.area.proofs.Laws.{scratch-refl, scratch-trans, scratch-upd}
 use Rattle.compact.specs.declared.Shape.{Shape}
 use Rattle.compact.specs.State.{compactOf, Modelled, Prepared, Multiplied}
 use Rattle.compact.proofs.Laws.{tab-get, tab-same, pairs-count}
 use Rattle.compact.proofs.Models.{compact-kept, compact-upd, modelled-kept, prepared-upd}
-use Rattle.subspace.specs.State.{plainIn, weightedIn, movedIn, boundsOf, anyFreeAt, weightsAt, productAt, residualFrom, residualAt, correctionsAt, stepsAt, shareAt, movedAt, movedByAt, onFreeAt, minimumAt, Makes}
+use Rattle.subspace.specs.State.{plainIn, weightedIn, movedIn, boundsOf, anyFreeAt, weightsAt, productAt, residualFrom, residualAt}
+use Rattle.subspace.specs.State.{correctionsAt, stepsAt, shareAt, movedAt, movedByAt, onFreeAt, minimumAt, Makes}
 
 scratch-by : {a b : Vecs} (p : ℕ) (x : List Float) → 8 ≤ p → p < firstFree → b ≡ upd a p x → ScratchOnly a b
 scratch-by p x l h e = rw e (scratch-upd p x l h scratch-refl)
@@ -67,15 +69,18 @@ pub differenced : {h : Shape} {theta : Float} {ok : Bool} {t f : Matrix} {o : Li
 unfolding differenceOf
 differenced {h} {a = a} q r e k = rw e (prepared-upd Displacement (difference (h .n) (a q) (a r)) (omega arith) k)
 
-product-is : (h : Shape) (theta : Float) (a b d : Vecs) (ok : Bool) → b ≡ differenceOf (h .n) Displacement Cauchy X a → Multiplied h theta ProductZ Displacement b ok d
+product-is : (h : Shape) (theta : Float) (a b d : Vecs) (ok : Bool) → b ≡ differenceOf (h .n) Displacement Cauchy X a
+    → Multiplied h theta ProductZ Displacement b ok d
     → given ok (d ProductZ) ≡ productAt h theta a
 unfolding differenceOf
 product-is h theta a b d ok e m =
-    let same : compactOf h theta b ≡ compactOf h theta a = ap (compactOf h theta) e ∙ compact-upd h theta a Displacement (difference (h .n) (a Cauchy) (a X)) (omega arith) in
+    let same : compactOf h theta b ≡ compactOf h theta a
+    = ap (compactOf h theta) e ∙ compact-upd h theta a Displacement (difference (h .n) (a Cauchy) (a X)) (omega arith) in
     m .is ∙ (λ k. product (h .n) (same k) (e k Displacement))
 
 -- what difference and product leave as it was
-after-product : (h : Shape) (theta : Float) (a b d : Vecs) (ok : Bool) → b ≡ differenceOf (h .n) Displacement Cauchy X a → Multiplied h theta ProductZ Displacement b ok d
+after-product : (h : Shape) (theta : Float) (a b d : Vecs) (ok : Bool) → b ≡ differenceOf (h .n) Displacement Cauchy X a
+    → Multiplied h theta ProductZ Displacement b ok d
     → (d G ≡ a G) × (d Cauchy ≡ a Cauchy) × ScratchOnly a d
 unfolding differenceOf
 after-product h theta a b d ok e m = (
@@ -113,7 +118,8 @@ a-residual h theta a b d r ok e m t f =
 
 -- ---- the steps
 
-pub plain : (h : Shape) (theta : Float) (a b : Vecs) → h .pairs ≡ 0 → b ≡ rowwise (h .n) Step (λ (i : ℕ). plainIn theta) a → Makes Step (stepsAt h theta a) a true b
+pub plain : (h : Shape) (theta : Float) (a b : Vecs) → h .pairs ≡ 0 → b ≡ rowwise (h .n) Step (λ (i : ℕ). plainIn theta) a
+    → Makes Step (stepsAt h theta a) a true b
 unfolding rowwise
 plain h theta a b z e = record {
   is = rw (pairs-count h a, eq-eqb (h .pairs) 0 z) (λ k. some (e k Step));
@@ -128,7 +134,8 @@ weightedAt h theta a w =
     some (freeSteps (h .n) (boundsOf a) (a Cauchy) (λ i. over (Ieee.neg (plus (word (a ProductD) i) (over (c i) theta))) theta))
 
 -- with pairs, the steps are those of the weights
-pub by-weights : (h : Shape) (theta : Float) (a : Vecs) (w : Option (List Float)) → (h .pairs ≡ 0 → ⊥) → w ≡ weightsAt h theta a → weightedAt h theta a w ≡ stepsAt h theta a
+pub by-weights : (h : Shape) (theta : Float) (a : Vecs) (w : Option (List Float)) → (h .pairs ≡ 0 → ⊥) → w ≡ weightsAt h theta a
+    → weightedAt h theta a w ≡ stepsAt h theta a
 unfolding stepsWithPairs
 by-weights h theta a w d e = rw (ne-eqb (count (compactOf h theta a)) 0 (λ z. d (sym (pairs-count h a) ∙ z))) (ap (weightedAt h theta a) e)
 
@@ -140,7 +147,8 @@ no-steps h theta a ok z e t = record {
   kept = scratch-refl;
 }
 
-pub with-steps : (h : Shape) (theta : Float) (a b d : Vecs) (ok : Bool) (z : List Float) → weightedAt h theta a (given ok z) ≡ stepsAt h theta a → not ok ≡ false
+pub with-steps : (h : Shape) (theta : Float) (a b d : Vecs) (ok : Bool) (z : List Float) → weightedAt h theta a (given ok z) ≡ stepsAt h theta a
+    → not ok ≡ false
     → b ≡ upd a Step (correctionsAt h theta a z) → d ≡ rowwise (h .n) Step (λ (i : ℕ). weightedIn theta) b → Makes Step (stepsAt h theta a) a true d
 unfolding rowwise
 with-steps h theta a b d ok z e t f g =
@@ -151,7 +159,8 @@ with-steps h theta a b d ok z e t f g =
           ∙ (λ k. some (tab (h .n) (λ (i : ℕ). weightedIn theta (λ (q : ℕ). word (f k q) i))))
           ∙ ap some
           (tab-same (h .n) _ _
-          (λ i l k. cond (free (boundsOf a) (a Cauchy) i) (over (Ieee.neg (plus (word (a ProductD) i) (over (tab-get (h .n) c i nan l k) theta))) theta) zero64))
+          (λ i l k. cond (free (boundsOf a) (a Cauchy) i) (over (Ieee.neg (plus (word (a ProductD) i) (over (tab-get (h .n) c i nan l k) theta))) theta)
+          zero64))
           ∙ ap (λ (t : Bool). weightedAt h theta a (given t z)) (sym (not-false ok t))
           ∙ e;
       cauchy = (λ k. g k Cauchy) ∙ (λ k. f k Cauchy);
@@ -166,7 +175,8 @@ with-steps h theta a b d ok z e t f g =
 pub bounds-kept : {p : ℕ} {F : Option (List Float)} {a b : Vecs} {ok : Bool} → Makes p F a ok b → boundsOf b ≡ boundsOf a
 bounds-kept m = λ k. record { lower = m .kept .low Lower (omega arith) k; upper = m .kept .low Upper (omega arith) k }
 
-pub model-kept : {p : ℕ} {F : Option (List Float)} {h : Shape} {theta : Float} {m : Matrix} {a b : Vecs} {ok : Bool} → Makes p F a ok b → Modelled h theta m a → Modelled h theta m b
+pub model-kept : {p : ℕ} {F : Option (List Float)} {h : Shape} {theta : Float} {m : Matrix} {a b : Vecs} {ok : Bool} → Makes p F a ok b → Modelled h theta m a
+    → Modelled h theta m b
 model-kept {b = b} k r = modelled-kept b (k .kept .high) r
 
 from-residual : (h : Shape) (theta : Float) (a b : Vecs) (ok : Bool) → Makes ProductD (residualAt h theta a) a ok b → not ok ≡ false
@@ -175,7 +185,8 @@ from-residual h theta a b ok m t =
     (λ k. onFree (h .n) (bounds-kept m k) (m .cauchy k) (compact-kept h theta a b (m .kept .high) k) (b ProductD))
     ∙ ap (λ (o : Option (List Float)). o andThen onFree (h .n) (boundsOf a) (a Cauchy) (compactOf h theta a)) (has ok (b ProductD) (m .is) t)
 
-pub without-residual : (h : Shape) (theta : Float) (a b : Vecs) (ok : Bool) → Makes ProductD (residualAt h theta a) a ok b → not ok ≡ true → Makes Target (onFreeAt h theta a) a false b
+pub without-residual : (h : Shape) (theta : Float) (a b : Vecs) (ok : Bool) → Makes ProductD (residualAt h theta a) a ok b → not ok ≡ true
+    → Makes Target (onFreeAt h theta a) a false b
 without-residual h theta a b ok m t = record {
   is = ap (λ (o : Option (List Float)). o andThen onFree (h .n) (boundsOf a) (a Cauchy) (compactOf h theta a)) (lacks ok (b ProductD) (m .is) t);
   cauchy = m .cauchy;

@@ -92,7 +92,7 @@ fn residual(
     order: &[usize; 32],
 ) -> bool
     requires { ⌜ Sound h (length (now area)) × Prepared h theta found (now rows) (now multipliers) (now order) (view (now area) (h .n)) ⌝ }
-    ensures { λ r. ⌜ Makes ProductD (residualAt h theta (view (now (area .entry)) (h .n))) (view (now (area .entry)) (h .n)) r (view (now (area .exit)) (h .n)) ⌝ }
+    ensures { λ r. ⌜ (let v = view (now (area .entry)) (h .n) in Makes ProductD (residualAt h theta v) v r (view (now (area .exit)) (h .n))) ⌝ }
 {
     area::difference(area, h.n, area::DISPLACEMENT, area::CAUCHY, area::X);
     let found = compact::product(
@@ -235,7 +235,9 @@ fn push(
     k: usize,
 ) -> usize
     requires { ⌜ Sound h (length (now area)) × (k < h .n) × Held (2 * h .pairs) (now p) count (now a) ⌝ }
-    ensures { λ r. ⌜ Held (2 * h .pairs) (now (p .exit)) r (now (a .exit)) × (addRows (2 * h .pairs) (now (p .exit)) r (now (a .exit)) ≡ addFree h (wordsAt (now (area .entry)) (h .n) k) (addRows (2 * h .pairs) (now (p .entry)) count (now (a .entry)))) ⌝ }
+    ensures { λ r. ⌜ Held (2 * h .pairs) (now (p .exit)) r (now (a .exit))
+        × (addRows (2 * h .pairs) (now (p .exit)) r (now (a .exit))
+        ≡ addFree h (wordsAt (now (area .entry)) (h .n) k) (addRows (2 * h .pairs) (now (p .entry)) count (now (a .entry)))) ⌝ }
 {
     if !is_free(area, h.n, k) {
         return count;
@@ -508,7 +510,8 @@ fn on_free(
     multipliers: &[[f64; 32]; 32],
     order: &[usize; 32],
 ) -> bool
-    requires { ⌜ Sound h (length (now area)) × Modelled h theta (now block) (view (now area) (h .n)) × Prepared h theta found (now rows) (now multipliers) (now order) (view (now area) (h .n)) ⌝ }
+    requires { ⌜ Sound h (length (now area)) × Modelled h theta (now block) (view (now area) (h .n))
+        × Prepared h theta found (now rows) (now multipliers) (now order) (view (now area) (h .n)) ⌝ }
     ensures { λ r. ⌜ Makes Target (onFreeAt h theta (view (now (area .entry)) (h .n))) (view (now (area .entry)) (h .n)) r (view (now (area .exit)) (h .n)) ⌝ }
 {
     let found = residual(area, h, theta, found, rows, multipliers, order);
@@ -533,7 +536,8 @@ pub fn primal_minimize(
     multipliers: &[[f64; 32]; 32],
     order: &[usize; 32],
 ) -> bool
-    requires { ⌜ Sound h (length (now area)) × Modelled h theta (now block) (view (now area) (h .n)) × Prepared h theta found (now rows) (now multipliers) (now order) (view (now area) (h .n)) ⌝ }
+    requires { ⌜ Sound h (length (now area)) × Modelled h theta (now block) (view (now area) (h .n))
+        × Prepared h theta found (now rows) (now multipliers) (now order) (view (now area) (h .n)) ⌝ }
     ensures { λ r. ⌜ Minimizes (minimumAt h theta (view (now (area .entry)) (h .n))) (view (now (area .entry)) (h .n)) r (view (now (area .exit)) (h .n)) ⌝ }
 {
     if any_free(area, h.n) {

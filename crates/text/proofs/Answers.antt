@@ -60,7 +60,8 @@ answered-told : (t : Told) (n : ℕ) (x : List Float) → printedAs t n x ≡ an
 answered-told (T.Is o) n x = refl
 answered-told (T.Refused c) n x = refl
 
-reported : (u : Bool) (r : M.Report) → answered (refusedBy (when u (refuse 15 0 0) then none) (H.Answer.reported r)) ≡ cond u (Printed.refused 15) (Printed.lines r)
+reported : (u : Bool) (r : M.Report)
+    → answered (refusedBy (when u (refuse 15 0 0) then none) (H.Answer.reported r)) ≡ cond u (Printed.refused 15) (Printed.lines r)
 reported true r = refl
 reported false r = refl
 

@@ -18,7 +18,8 @@ use Rattle.text.specs.Puts.{Puts}
 
 -- ---- runs of bytes
 
-pub puts-copied : {s : List ℕ} {at : ℕ} {out out' : List ℕ} {i : ℕ} → Copied out s at out' i → length s ≤ i → at + length s ≤ length out → Puts s (length s) at out (at + length s) out'
+pub puts-copied : {s : List ℕ} {at : ℕ} {out out' : List ℕ} {i : ℕ} → Copied out s at out' i → length s ≤ i → at + length s ≤ length out
+    → Puts s (length s) at out (at + length s) out'
 puts-copied h k b = record { short = omega arith; within = b; ends = refl; sized = h .long; is = copied-done h k }
 
 -- nothing
@@ -73,7 +74,9 @@ pub pointed-more : {x : List Float} {n at : ℕ} {o o' o'' : List ℕ} {e e' i :
     → Puts (floatLine xWord (getD x i d)) 25 e o' e' o'' → Pointed x n at o e' o'' (i + 1)
 pointed-more {x} {i = i} d h l b y = record {
   upto = omega arith;
-  puts = puts-as (sym (ap pointLines (ap (λ (k : ℕ). take k x) (add-one i) ∙ take-suc x i d (omega arith)) ∙ point-more (take i x) (getD x i d))) (omega arith) (puts-both (h .puts) y);
+  puts =
+      puts-as (sym (ap pointLines (ap (λ (k : ℕ). take k x) (add-one i) ∙ take-suc x i d (omega arith)) ∙ point-more (take i x) (getD x i d))) (omega arith)
+      (puts-both (h .puts) y);
 }
 
 pub pointed-done : {x : List Float} {n at : ℕ} {o o' : List ℕ} {e i : ℕ} → Pointed x n at o e o' i → n ≤ i → Puts (pointLines (take n x)) (25 * n) at o e o'

@@ -133,7 +133,8 @@ fn put_read(
 // What the report program prints for an input; how many bytes it is.
 pub fn put_text(input: &[u8], out: &mut [u8]) -> usize
     requires { ⌜ 2048 ≤ length (now out) ⌝ }
-    ensures { λ r. ⌜ (let t = textOf (printed (now (input .entry))) in (r ≡ length t) × (now (out .exit) ≡ written t (now (out .entry))) × (r ≤ length (now (out .exit)))) ⌝ }
+    ensures { λ r. ⌜ (let t = textOf (printed (now (input .entry))) in
+        (r ≡ length t) × (now (out .exit) ≡ written t (now (out .entry))) × (r ≤ length (now (out .exit)))) ⌝ }
 {
     let mut area = [0.0f64; input::AREA];
     let mut log = [0u64; input::LOG];

@@ -15,7 +15,8 @@ use Rattle.accept.proofs.advanced.Statement.{statement}
 use Rattle.accept.proofs.advanced.Tie as tie
 
 -- the area is as long after the step
-advance-length : (c : tie.After-advance) → length (c .advance .last .1 .0) ≡ length (c .before .before .before .before .before .before .before .before .args .area .now)
+advance-length : (c : tie.After-advance)
+    → length (c .advance .last .1 .0) ≡ length (c .before .before .before .before .before .before .before .before .args .area .now)
 advance-length c = search needs
 
 put-gradient-requires : tie.Need-put-gradient-requires
@@ -27,15 +28,16 @@ put-gradient-requires c κs =
 
 advance-requires : tie.Need-advance-requires
 advance-requires c κs =
-    let s = c .before .before .before .before .before .before .before in
-    let z : length (c .before .before .before .put-gradient .last .0) ≡ length (s .args .area .now) = search needs in
+    let p = c .before .before .before in
+    let s = p .before .before .before .before in
+    let z : length (p .put-gradient .last .0) ≡ length (s .args .area .now) = search needs in
     let f = ready-facts (s .args .t) (length (s .args .area .now)) (s .pre .0) in
     (rw z (f .ready), f .within)
 
 mark-requires : tie.Need-mark-requires
 mark-requires c κs =
-    let s = c .before .before .before .before .before .before .before .before .before .before .before .before in
     let a = c .before .before .before .before in
+    let s = a .before .before .before .before .before .before .before .before in
     let z = advance-length a in
     let f = ready-facts (s .args .t) (length (s .args .area .now)) (s .pre .0) in
     let k = a .advance .ensures in
@@ -50,28 +52,35 @@ entry-length-requires c κs =
 
 counted-requires : tie.Need-counted-requires
 counted-requires c κs =
-    let s = c .before .before .before .before .before .before .before .before .before .before .before .before .before .before .before .before .before in
+    let a = c .before .before .before .before .before .before .before .before .before in
+    let s = a .before .before .before .before .before .before .before .before in
     let f = ready-facts (s .args .t) (length (s .args .area .now)) (s .pre .0) in
-    let k = c .before .before .before .before .before .before .before .before .before .advance .ensures .kept in
+    let k = a .advance .ensures .kept in
     let few = entry-few (s .args .t .shape .n) (s .args .r) (f .ready .n) in
     (rw (k .extra) (f .entries), rw (k .extra) (f .words), rw (c .entry-length .ensures, c .before .kind-of .ensures) few)
 
 same-length : tie.Need-same-length
-same-length c = c .before .before .before .before .before .mark .ensures .size ∙ advance-length (c .before .before .before .before .before .before .before .before .before .before)
+same-length c =
+    let m = c .before .before .before .before .before in
+    let k = m .before .before .before .before .before in
+    m .mark .ensures .size ∙ advance-length k
 
 returns : tie.Need-returns
 returns c =
-    let s = c .before .before .before .before .before .before .before .before .before .before .before .before .before .before .before .before .before .before in
-    let a = c .before .before .before .before .before .before .before .before .before .before in
+    let m = c .before .before .before .before .before in
+    let a = m .before .before .before .before .before in
+    let p = a .before .before .before .before in
+    let s = p .before .before .before .before in
     let z = advance-length a in
     let e : c .before .entry-length .result ≡ length (entryWords (replied (s .args .r) (s .args .gradient .now))) =
     c .before .entry-length .ensures
     ∙ ap (λ (k : ℕ). entrySize k (s .args .t .shape .n)) (c .before .before .kind-of .ensures)
-    ∙ entry-size (s .args .t .shape .n) (s .args .r) (s .args .gradient .now) (due-long (s .args .t) (s .args .area .now) (s .args .r) (s .args .gradient .now) (s .pre .1)) in
+    ∙ entry-size (s .args .t .shape .n) (s .args .r) (s .args .gradient .now)
+    (due-long (s .args .t) (s .args .area .now) (s .args .r) (s .args .gradient .now) (s .pre .1)) in
     let f = ready-facts (s .args .t) (length (s .args .area .now)) (s .pre .0) in
     rw (c .counted .ensures)
     (advances (s .args .t) (s .args .area .now) _ (s .args .r) (s .args .gradient .now) (a .advance .result) _ _ _ (f .ready .sound) (f .within) (s .pre .1)
-    (c .before .before .before .before .before .before .before .before .before .before .before .before .before .before .put-gradient .ensures) (a .advance .ensures) z (c .before .before .before .before .before .mark .ensures) e)
+    (p .put-gradient .ensures) (a .advance .ensures) z (m .mark .ensures) e)
 
 pub advanced-spec : {M : Type 1} → statement M
 advanced-spec =

@@ -11,10 +11,11 @@ returns c = λ ws e. no-length (c .before .before .args .n) (c .before .before .
 
 returns-2 : tie.Need-returns-2
 returns-2 c =
-    λ ws e.
     let h = c .before .before in
     let s = h .before .before in
-    c .refused .ensures ∙ rw (← e) (wrong-length (s .args .n) (s .args .r) ws (sym (h .before .kind-of .ensures) ∙ h .if1 .left) (λ k. c .before .if2 .taken (sym e ∙ k)))
+    λ ws e.
+    c .refused .ensures
+    ∙ rw (← e) (wrong-length (s .args .n) (s .args .r) ws (sym (h .before .kind-of .ensures) ∙ h .if1 .left) (λ k. c .before .if2 .taken (sym e ∙ k)))
 
 returns-3 : tie.Need-returns-3
 returns-3 c =

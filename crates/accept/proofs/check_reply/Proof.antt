@@ -27,7 +27,9 @@ returns-2 c =
     first-refuses _ (c .enum-told4 .given .1) (c .before .before .check-length .ensures ws e ∙ due)
 
 entry-length-requires : tie.Need-entry-length-requires
-entry-length-requires c κs = let p = c .before .before .before .before .before .before .before .pre in omega arith
+entry-length-requires c κs =
+    let p = c .before .before .before .before .before .before .before .pre in
+    omega arith
 
 returns-3 : tie.Need-returns-3
 returns-3 c =

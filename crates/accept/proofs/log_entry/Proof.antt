@@ -46,10 +46,12 @@ returns c =
 
 returns-2 : tie.Need-returns-2
 returns-2 c =
-    let s = c .before .before .before .before .before .before .before .before .before in
-    let e = c .before .before .before .before .enum-told .given .1 in
+    let t = c .before .before .before .before in
+    let s = t .before .before .before .before .before in
+    let e = t .enum-told .given .1 in
     c .before .before .log-gradient .ensures
-    ∙ put-gradient _ _ (s .args .gradient .now) (s .args .at) _ (c .before .before .before .before .before .before .kind-of .ensures ∙ ap entryKind e) (entry-is (s .args .gradient .now) e) (s .pre)
+    ∙ put-gradient _ _ (s .args .gradient .now) (s .args .at) _ (t .before .before .kind-of .ensures ∙ ap entryKind e) (entry-is (s .args .gradient .now) e)
+    (s .pre)
 
 same-length-2 : tie.Need-same-length-2
 same-length-2 c =

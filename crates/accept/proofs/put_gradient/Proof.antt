@@ -24,7 +24,8 @@ returns-2 c =
     let h = c .before .before .before .before in
     let s = h .before .before .before .before in
     let k = sym (h .before .kind-of .ensures) ∙ h .if1 .left in
-    is-stored (s .args .n) (s .args .r) (s .args .gradient .now) (view (s .args .area .now) (s .args .n)) _ k (s .pre .1 k) (c .before .before .store-words .ensures)
+    is-stored (s .args .n) (s .args .r) (s .args .gradient .now) (view (s .args .area .now) (s .args .n)) _ k (s .pre .1 k)
+    (c .before .before .store-words .ensures)
 
 pub put-gradient-spec : {M : Type 1} → statement M
 put-gradient-spec =

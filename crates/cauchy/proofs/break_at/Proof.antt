@@ -1,4 +1,5 @@
--- `cauchy::break_at` meets its contract: a walk of its MIR, by hand. The shared borrow is looked into, and the element, 16 bytes, is copied out. Assumes nothing.
+-- `cauchy::break_at` meets its contract: a walk of its MIR, by hand. The shared borrow is
+-- looked into, and the element, 16 bytes, is copied out. Assumes nothing.
 use mathlib.Core.Path.{refl, sym}
 use Prim.Native.Nat.{ℕ, _<_, _^_}
 use mathlib.Core.List.{[], _∷_, List}
@@ -52,7 +53,8 @@ Arg = RefT (List BreakTime) × (ℕ × Unit {0})
 abbrev stayed : Stays (this.ended .signature .params) (this.ended .kept)
 stayed = (stay-none-slice (0 ∷ []) tt (plain (λ _. T.the-row)) yes, (stay-none (λ _. usize) yes, tt))
 
-module _ {M : Type 1} (𝓤 : URA M) (H : Heap 𝓤) (A : Atoms 𝓤) (W : Given 𝓤 H A) (at-mem : Memory → SProp 𝓤) (run : Routine → Fun 𝓤) (κ : Lft) (q : Share) (b o : ℕ) (γ : GName) (ys : List BreakTime) (i : ℕ) where
+module _ {M : Type 1} (𝓤 : URA M) (H : Heap 𝓤) (A : Atoms 𝓤) (W : Given 𝓤 H A) (at-mem : Memory → SProp 𝓤) (run : Routine → Fun 𝓤) (κ : Lft) (q : Share)
+    (b o : ℕ) (γ : GName) (ys : List BreakTime) (i : ℕ) where
   abbrev x : Arg
   x = (record { ptr = (b, o); name = γ; now = ys }, (i, tt))
 
@@ -65,10 +67,13 @@ module _ {M : Type 1} (𝓤 : URA M) (H : Heap 𝓤) (A : Atoms 𝓤) (W : Given
   abbrev Post : Val → SProp 𝓤
   Post = walkOf 𝓤 H A this.ended stayed (this.clauses 𝓤 H A at-mem run) .post (((κ, tt), (q, tt), tt, x, at), tt)
 
-  exits : Is T.the-row elem (val elem ∷ []) → ent 𝓤 (⋆ 𝓤 H A (‵ (flft κ q) ∷ ‵ (ShrSlice (named 0) κ T.the-row .own (x .0) (at .0)) ∷ ‵ (usize .own i (vint w64 i ∷ [])) ∷ [])) (Post (val elem))
+  exits : Is T.the-row elem (val elem ∷ [])
+      → ent 𝓤 (⋆ 𝓤 H A (‵ (flft κ q) ∷ ‵ (ShrSlice (named 0) κ T.the-row .own (x .0) (at .0)) ∷ ‵ (usize .own i (vint w64 i ∷ [])) ∷ [])) (Post (val elem))
   exits g =
       qed W (‵ (flft κ q) ∷ ‵ (ShrSlice (named 0) κ T.the-row .own (x .0) (at .0)) ∷ ‵ (usize .own i (vint w64 i ∷ [])) ∷ []) ∵
-      suffices ! _ (ends-at 𝓤 H A this.ended stayed (this.clauses 𝓤 H A at-mem run) W (((κ, tt), (q, tt), tt, x, at), tt) (val elem) elem (tt, (tt, tt)) (tt, (tt, tt))) $ says ! refl $
+      suffices ! _ (ends-at 𝓤 H A this.ended stayed (this.clauses 𝓤 H A at-mem run) W (((κ, tt), (q, tt), tt, x, at), tt) (val elem) elem (tt, (tt, tt))
+      (tt, (tt, tt))) $
+      says ! refl $
       nothing ! $ move ! (1 ∷ 0 ∷ []) $ join ! $ nothing ! $ move ! (3 ∷ 0 ∷ []) $ fjoin ! $ move ! (2 ∷ 0 ∷ []) $ fjoin ! $ move ! (1 ∷ 0 ∷ []) $
       frame ! $ frame ! $ owned ! T.the-row (Is T.the-row) (LL.makes T.the-type T′.the-plain 𝓤 H A) elem _ g $ done !
 
@@ -76,33 +81,45 @@ module _ {M : Type 1} (𝓤 : URA M) (H : Heap 𝓤) (A : Atoms 𝓤) (W : Given
     walk : Room T.the-row (length ys) → i < 2 ^ 64 → i < length ys → ent 𝓤 (onEntry 𝓤 H A this.signature (κ, tt) (q, tt) x at)
         (WpFn 𝓤 H C Λ code.function (sliceVal (b, o) (length ys) ∷ vint w64 i ∷ []) Post)
     walk gn gi l =
-        qed W ((‵ (flft κ q) ⊛ ‵ ftrue) ∷ ‵ (owns (ShrSlice (named 0) κ T.the-row ∷ usize ∷ []) x at) ∷ []) ∵ enter ! C Λ code.function (sliceVal (b, o) (length ys) ∷ vint w64 i ∷ []) _ $
+        qed W ((‵ (flft κ q) ⊛ ‵ ftrue) ∷ ‵ (owns (ShrSlice (named 0) κ T.the-row ∷ usize ∷ []) x at) ∷ []) ∵
+        enter ! C Λ code.function (sliceVal (b, o) (length ys) ∷ vint w64 i ∷ []) _ $
         alloc1 ! (λ l₀. alloc1 ! (λ l₁. alloc1 ! (λ l₂. alloc1 ! (λ l₃. alloc1 ! (λ l₄. alloc1 ! (λ l₅. alloc0 ! $ params1 ! $
         pass1 ! (init ! 8 refl (tt, (tt, (record { fits = gn .0 }, tt)))) $ pass1 ! (init ! 6 refl (tt, record { fits = gi })) $ pass0 ! $
-        assigns ! (bin ! (load ! (from ! (stop !)) (look ! 6 refl)) (lit ! tt) (scaled-fits i (length ys) 16 l (gn .1))) (from ! (stop !)) (init ! 4 refl (tt, scaled-fits i (length ys) 16 l (gn .1))) $
-        assigns ! (bin ! (load ! (from ! (fld ! refl (stop !))) (look-in ! 8 (sub ! 0 refl (whole !)))) (load ! (from ! (stop !)) (look ! 4 refl)) tt) (from ! (stop !)) (init ! 2 refl (tt, tt)) $
+        assigns ! (bin ! (load ! (from ! (stop !)) (look ! 6 refl)) (lit ! tt) (scaled-fits i (length ys) 16 l (gn .1))) (from ! (stop !))
+        (init ! 4 refl (tt, scaled-fits i (length ys) 16 l (gn .1))) $
+        assigns ! (bin ! (load ! (from ! (fld ! refl (stop !))) (look-in ! 8 (sub ! 0 refl (whole !)))) (load ! (from ! (stop !)) (look ! 4 refl)) tt)
+        (from ! (stop !)) (init ! 2 refl (tt, tt)) $
         rewrite ! 2 (λ (p : ℕ). ‵ (fat fullShare tyPtr l₄ 0 (vptr b p))) (sym (place-is 16 o i)) refl $
         move ! (13 ∷ []) $ fsplit ! $ fsplit ! $ move ! (1 ∷ []) $ fsplit ! $ move ! (16 ∷ []) $ split ! $ move ! (3 ∷ 0 ∷ []) $
-        looks-slice ! tt T.the-row (Is T.the-row) (shows 𝓤 H A T.the-row) vals (LL.tells T.the-type T′.the-laws) (LL.copy T.the-type T′.the-copy 𝓤 H A W) ys b o (λ q′. elem-out ! T.the-row (Is T.the-row) (shows 𝓤 H A T.the-row) vals (LL.tells T.the-type T′.the-laws) q′ ys i noBreakTime b o l (λ g.
+        looks-slice ! tt T.the-row (Is T.the-row) (shows 𝓤 H A T.the-row) vals (LL.tells T.the-type T′.the-laws) (LL.copy T.the-type T′.the-copy 𝓤 H A W) ys b
+        o (λ q′. elem-out ! T.the-row (Is T.the-row) (shows 𝓤 H A T.the-row) vals (LL.tells T.the-type T′.the-laws) q′ ys i noBreakTime b o l (λ g.
         -- [b[i]; what it owns; the others; what shuts; the fractured borrow; true; res; b's fact; i's; _5 at 9; _4 at 11; _3; _2; _1; _0 at 19]
         use1 W (‵ (fat q′ T′.mir b (place 16 o i) (val elem))) (W .laws .raw-at q′ T′.mir b (place 16 o i) (val elem)) $
-        assigns ! (of-opd ! (load ! (from ! (hop ! (look ! 11 refl) (stop !))) (look ! 0 refl))) (from ! (stop !)) (init ! 9 refl (LL.lawful T.the-type T′.the-laws 𝓤 H A W .typed elem _ g .0)) $
-        assigns ! (of-opd ! (load ! (from ! (stop !)) (look ! 9 refl))) (from ! (stop !)) (init ! 19 refl (LL.lawful T.the-type T′.the-laws 𝓤 H A W .typed elem _ g .0)) $
+        assigns ! (of-opd ! (load ! (from ! (hop ! (look ! 11 refl) (stop !))) (look ! 0 refl))) (from ! (stop !))
+        (init ! 9 refl (LL.lawful T.the-type T′.the-laws 𝓤 H A W .typed elem _ g .0)) $
+        assigns ! (of-opd ! (load ! (from ! (stop !)) (look ! 9 refl))) (from ! (stop !))
+        (init ! 19 refl (LL.lawful T.the-type T′.the-laws 𝓤 H A W .typed elem _ g .0)) $
         use1 W (‵ (cellAt q′ (T.the-row .mir) (val elem ∷ []) b (place 16 o i))) (W .laws .at-raw q′ T′.mir b (place 16 o i) (val elem)) $
         elem-back ! T.the-row q′ ys i noBreakTime (val elem ∷ []) b o l $ shuts-slice ! tt T.the-row q′ ys b o $
         returns ! (look ! 16 refl) $ forget ! 6 refl $ forget ! 8 refl $ forget ! 10 refl $ forget ! 12 refl $ forget ! 14 refl $ forget ! 16 refl $
-        move ! (16 ∷ 17 ∷ []) $ free1 ! $ move ! (14 ∷ 15 ∷ []) $ free1 ! $ move ! (12 ∷ 13 ∷ []) $ free1 ! $ move ! (10 ∷ 11 ∷ []) $ free1 ! $ move ! (8 ∷ 9 ∷ []) $ free1 ! $ move ! (6 ∷ 7 ∷ []) $ free1 ! $ free0 ! $
+        move ! (16 ∷ 17 ∷ []) $ free1 ! $ move ! (14 ∷ 15 ∷ []) $ free1 ! $ move ! (12 ∷ 13 ∷ []) $ free1 ! $ move ! (10 ∷ 11 ∷ []) $ free1 ! $
+        move ! (8 ∷ 9 ∷ []) $ free1 ! $ move ! (6 ∷ 7 ∷ []) $ free1 ! $ free0 ! $
         move ! (3 ∷ 1 ∷ []) $ fjoin ! $ move ! (3 ∷ 0 ∷ []) $ fjoin ! $ move ! (3 ∷ []) $ fsplit ! $ keep ! (3 ∷ 2 ∷ 0 ∷ []) $ by ! (exits g)))))))))
 
 module _ {M : Type 1} (𝓤 : URA M) (H : Heap 𝓤) (A : Atoms 𝓤) (W : Given 𝓤 H A) (at-mem : Memory → SProp 𝓤) (run : Routine → Fun 𝓤) where
   walks : (C : Calls 𝓤 H) (Λ : Loops 𝓤 H) → Walks 𝓤 H A this.ended stayed (WpFn 𝓤 H C Λ code.function) (this.clauses 𝓤 H A at-mem run)
-  walks C Λ = walked 𝓤 H A this.ended stayed (this.clauses 𝓤 H A at-mem run) (WpFn 𝓤 H C Λ code.function) (λ κs. (slice-vals, (uint-vals w64, tt))) (λ κs. (shr-slice-tells (named 0) (κs .0) T.the-row, (uint-tells w64, tt)))
+  walks C Λ =
+      walked 𝓤 H A this.ended stayed (this.clauses 𝓤 H A at-mem run) (WpFn 𝓤 H C Λ code.function) (λ κs. (slice-vals, (uint-vals w64, tt)))
+      (λ κs. (shr-slice-tells (named 0) (κs .0) T.the-row, (uint-tells w64, tt)))
       (λ κs qs bounds a g are. needs 𝓤 (a .1 .0 < length (now (a .0))) _
       (walk 𝓤 H A W at-mem run (κs .0) (qs .0) (a .0 .ptr .0) (a .0 .ptr .1) (a .0 .name) (a .0 .now) (a .1 .0) C Λ (are .0 .0 .1) (are .1 .0 .1)))
 
 meets : {M : Type 1} (𝓤 : URA M) (H : Heap 𝓤) (A : Atoms 𝓤) → Given 𝓤 H A → (at-mem : Memory → SProp 𝓤) (run : Routine → Fun 𝓤) (𝓣 : Tables 𝓤 H)
     → Meets 𝓤 H A this.signature (WpFn 𝓤 H (𝓣 .C) (𝓣 .Λ) code.function) (this.spec 𝓤 H A at-mem run)
-meets 𝓤 H A W at-mem run 𝓣 = walk-meets 𝓤 H A this.ended stayed W (goes-none-slice 𝓤 H A W 1 (0 ∷ []) tt (plain (λ _. T.the-row)) yes, (goes-none 𝓤 H A W 1 (λ _. usize) yes (λ κs x f. refl), tt)) (this.clauses 𝓤 H A at-mem run) (WpFn 𝓤 H (𝓣 .C) (𝓣 .Λ) code.function) (WpFn-mono 𝓤 H (W .laws) 𝓣 code.function) (walks 𝓤 H A W at-mem run (𝓣 .C) (𝓣 .Λ))
+meets 𝓤 H A W at-mem run 𝓣 =
+    walk-meets 𝓤 H A this.ended stayed W
+    (goes-none-slice 𝓤 H A W 1 (0 ∷ []) tt (plain (λ _. T.the-row)) yes, (goes-none 𝓤 H A W 1 (λ _. usize) yes (λ κs x f. refl), tt))
+    (this.clauses 𝓤 H A at-mem run) (WpFn 𝓤 H (𝓣 .C) (𝓣 .Λ) code.function) (WpFn-mono 𝓤 H (W .laws) 𝓣 code.function) (walks 𝓤 H A W at-mem run (𝓣 .C) (𝓣 .Λ))
 
 pub break-at-spec : {M : Type 1} → stated.statement M
 unfolding code.routine tablesOf

@@ -8,10 +8,14 @@ returns : tie.Need-returns
 returns c = simp (sym (c .before .before .moves-up .ensures) ∙ c .before .if1 .taken)
 
 returns-2 : tie.Need-returns-2
-returns-2 c = simp (sym (c .before .before .before .before .moves-up .ensures) ∙ c .before .before .before .if1 .left, sym (c .before .before .moves-down .ensures) ∙ c .before .if2 .taken)
+returns-2 c =
+    let t = c .before .before .before in
+    simp (sym (t .before .moves-up .ensures) ∙ t .if1 .left, sym (c .before .before .moves-down .ensures) ∙ c .before .if2 .taken)
 
 returns-3 : tie.Need-returns-3
-returns-3 c = simp (sym (c .before .before .before .before .moves-up .ensures) ∙ c .before .before .before .if1 .left, sym (c .before .before .moves-down .ensures) ∙ c .before .if2 .left) (c .infinity .ensures)
+returns-3 c =
+    let t = c .before .before .before in
+    simp (sym (t .before .moves-up .ensures) ∙ t .if1 .left, sym (c .before .before .moves-down .ensures) ∙ c .before .if2 .left) (c .infinity .ensures)
 
 pub break-time-spec : {M : Type 1} → statement M
 break-time-spec =

@@ -19,7 +19,8 @@ with-time-requires : tie.Need-with-time-requires Inv-loop μ-loop
 with-time-requires c κs = finding-ordered (c .before .before .loop .inv) (c .before .loop-test .taken) (c .before .before .before .before .before .pre .1)
 
 loop-again : tie.Need-loop-again Inv-loop μ-loop
-loop-again c = finding-more _ (c .before .before .before .loop .inv) (c .before .before .loop-test .taken) (c .before .break-time .ensures) (c .with-time .ensures)
+loop-again c =
+    finding-more _ (c .before .before .before .loop .inv) (c .before .before .loop-test .taken) (c .before .break-time .ensures) (c .with-time .ensures)
 
 returns : tie.Need-returns Inv-loop μ-loop
 returns c = finding-done (c .before .loop .inv) (c .loop-test .left) (c .before .before .before .before .pre .1)

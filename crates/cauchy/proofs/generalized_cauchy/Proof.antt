@@ -10,7 +10,8 @@ use Rattle.cauchy.proofs.generalized_cauchy.Statement.{statement}
 use Rattle.cauchy.proofs.generalized_cauchy.Tie as tie
 
 abbrev Inv-loop : tie.InvT-loop
-Inv-loop area₀ h theta found rows multipliers order b p₀ left₀ area p left = Walking h theta b left₀ p₀ (view area₀ (h .n)) left p (view area (h .n)) × (length area ≡ length area₀)
+Inv-loop area₀ h theta found rows multipliers order b p₀ left₀ area p left =
+    Walking h theta b left₀ p₀ (view area₀ (h .n)) left p (view area (h .n)) × (length area ≡ length area₀)
 
 abbrev μ-loop : tie.MeasureT-loop
 μ-loop area₀ h theta found rows multipliers order b p₀ left₀ area p left = left
@@ -19,26 +20,41 @@ loop-holds : tie.Need-loop-holds Inv-loop μ-loop
 loop-holds c = (walking-none, refl)
 
 segment-from-requires : tie.Need-segment-from-requires Inv-loop μ-loop
-segment-from-requires c κs = let l = c .before .loop .inv in (
-  rw (l .1 ∙ c .before .before .before .before .area .given) (c .before .before .before .before .before .before .before .before .before .before .pre .0),
-  prepared-kept _ (scratch-trans (c .before .before .before .before .before .begin-path .ensures .kept) (l .0 .kept) .high) (c .before .before .before .before .before .before .before .before .before .before .pre .1),
-  c .before .before .before .before .before .before .before .find-breaks .ensures .listed,
-)
+segment-from-requires c κs =
+    let a = c .before .before .before .before in
+    let f = a .before .before .before in
+    let s = f .before .before .before in
+    let l = c .before .loop .inv in (
+      rw (l .1 ∙ a .area .given) (s .pre .0),
+      prepared-kept _ (scratch-trans (a .before .begin-path .ensures .kept) (l .0 .kept) .high) (s .pre .1),
+      f .find-breaks .ensures .listed,
+    )
 
 enum-known-s : tie.Need-enum-known-s Inv-loop μ-loop
 enum-known-s c = c .match .keys1
 
 returns : tie.Need-returns Inv-loop μ-loop
-returns c = walks _ _ (c .before .before .before .before .before .before .before .before .before .before .before .before .before .find-breaks .ensures) (c .before .before .before .before .before .before .before .before .before .before .before .begin-path .ensures) (walking-ends (c .before .before .before .before .before .before .before .loop .inv .0) (c .before .before .before .before .before .segment-from .ensures) _ (c .before .s .given .1))
+returns c =
+    let s = c .before .before .before .before .before in
+    let b = s .before .before .before .before .before .before in
+    walks _ _ (b .before .before .find-breaks .ensures) (b .begin-path .ensures)
+    (walking-ends (s .before .before .loop .inv .0) (s .segment-from .ensures) _ (c .before .s .given .1))
 
 enum-known-s-2 : tie.Need-enum-known-s-2 Inv-loop μ-loop
 enum-known-s-2 c = c .match .keys2
 
 returns-2 : tie.Need-returns-2 Inv-loop μ-loop
-returns-2 c = walks _ _ (c .before .before .before .before .before .before .before .before .before .before .before .before .before .before .find-breaks .ensures) (c .before .before .before .before .before .before .before .before .before .before .before .before .begin-path .ensures) (walking-stops (c .before .before .before .before .before .before .before .before .loop .inv .0) (c .before .before .before .before .before .before .segment-from .ensures) _ (c .before .before .s2 .given .1) (c .if1 .taken))
+returns-2 c =
+    let s = c .before .before .before .before .before .before in
+    let b = s .before .before .before .before .before .before in
+    walks _ _ (b .before .before .find-breaks .ensures) (b .begin-path .ensures)
+    (walking-stops (s .before .before .loop .inv .0) (s .segment-from .ensures) _ (c .before .before .s2 .given .1) (c .if1 .taken))
 
 loop-again : tie.Need-loop-again Inv-loop μ-loop
-loop-again c = (walking-more (c .before .before .before .before .before .before .before .before .loop .inv .0) (c .before .before .before .before .before .before .segment-from .ensures) _ (c .before .before .s2 .given .1) (c .if1 .left), c .before .before .before .before .before .area2 .given ∙ c .before .before .before .before .before .before .before .before .loop .inv .1)
+loop-again c =
+    let a = c .before .before .before .before .before in
+    let l = a .before .before .before in
+    (walking-more (l .loop .inv .0) (a .before .segment-from .ensures) _ (c .before .before .s2 .given .1) (c .if1 .left), a .area2 .given ∙ l .loop .inv .1)
 
 pub generalized-cauchy-spec : {M : Type 1} → statement M
 generalized-cauchy-spec =

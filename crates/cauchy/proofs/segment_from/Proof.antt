@@ -8,10 +8,17 @@ use Rattle.cauchy.proofs.segment_from.Statement.{statement}
 use Rattle.cauchy.proofs.segment_from.Tie as tie
 
 returns : tie.Need-returns
-returns c = let s = c .before .before .before .before .before .before .before .before .args in segment-ends (s .h) (s .theta) (s .b) (s .p) (c .before .before .before .before .before .still .ensures) (c .before .before .before .before .if1 .taken) (c .before .before .point-on-path .ensures)
+returns c =
+    let t = c .before .before .before .before in
+    let s = t .before .before .before .before .args in
+    segment-ends (s .h) (s .theta) (s .b) (s .p) (t .before .still .ensures) (t .if1 .taken) (c .before .before .point-on-path .ensures)
 
 returns-2 : tie.Need-returns-2
-returns-2 c = let s = c .before .before .before .before .before .before .before .before .before .args in segment-fails₁ (s .h) (s .theta) (s .b) (s .p) (c .before .before .before .before .before .before .still .ensures) (c .before .before .before .before .before .if1 .left) (c .before .before .before .product .ensures) (c .if2 .taken)
+returns-2 c =
+    let p = c .before .before .before in
+    let t = p .before .before .before in
+    let s = t .before .before .before .args in
+    segment-fails₁ (s .h) (s .theta) (s .b) (s .p) (t .still .ensures) (p .before .before .if1 .left) (p .product .ensures) (c .if2 .taken)
 
 product-requires-2 : tie.Need-product-requires-2
 product-requires-2 c κs =

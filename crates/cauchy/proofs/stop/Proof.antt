@@ -6,7 +6,13 @@ use Rattle.cauchy.proofs.stop.Statement.{statement}
 use Rattle.cauchy.proofs.stop.Tie as tie
 
 returns : tie.Need-returns
-returns c = stops _ _ _ _ (c .before .before .before .before .before .before .before .before .before .before .before .before .before .before .before .before .before .before .pre .1) (c .before .before .before .before .before .before .before .before .before .before .before .before .before .before .before .bound-met .ensures) (c .before .before .before .before .before .before .before .before .before .before .before .before .before .get .ensures) (rw zero-is at (c .before .before .before .before .before .before .before .before .before .before .before .put .ensures)) (c .before .before .before .before .before .before .before .put2 .ensures) (c .before .before .before .put3 .ensures)
+returns c =
+    let p = c .before .before .before in
+    let u = p .before .before .before .before in
+    let t = u .before .before .before .before in
+    let b = t .before .before .before .before in
+    stops _ _ _ _ (b .before .before .before .pre .1) (b .bound-met .ensures) (t .before .before .get .ensures) (rw zero-is at (t .put .ensures))
+    (u .put2 .ensures) (p .put3 .ensures)
 
 pub stop-spec : {M : Type 1} → statement M
 stop-spec =

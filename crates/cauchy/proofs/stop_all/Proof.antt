@@ -22,16 +22,32 @@ entry-requires : tie.Need-entry-requires Inv-loop μ-loop
 entry-requires c κs = omega (arith, c .before .before .before .before .before .before .pre .1 .few)
 
 stop-requires : tie.Need-stop-requires Inv-loop μ-loop
-stop-requires c κs = (omega (arith, c .before .before .before .before .before .before .before .loop .inv .1), rw (c .before .before .before .entry .ensures) (c .before .before .before .before .before .before .before .before .before .before .pre .1 .within _ (c .before .before .before .before .if1 .taken)), omega (arith, c .before .before .before .before .before .before .before .before .before .before .pre .1 .few))
+stop-requires c κs =
+    let e = c .before .before .before in
+    let l = e .before .before .before .before in
+    let s = l .before .before .before in
+    (omega (arith, l .loop .inv .1), rw (e .entry .ensures) (s .pre .1 .within _ (e .before .if1 .taken)), omega (arith, s .pre .1 .few))
 
 loop-less : tie.Need-loop-less Inv-loop μ-loop
-loop-less c = omega (arith, stopped-event (c .before .before .stop .ensures), c .before .before .before .before .before .before .before .if1 .taken)
+loop-less c =
+    let t = c .before .before .before .before .before .before .before in
+    omega (arith, stopped-event (c .before .before .stop .ensures), t .if1 .taken)
 
 loop-again : tie.Need-loop-again Inv-loop μ-loop
-loop-again c = (stopping-more (c .before .before .before .before .before .before .before .before .before .before .before .before .before .pre .1) (c .before .before .before .before .before .before .before .before .before .before .loop .inv .0) (c .before .before .before .before .before .before .before .if1 .taken) (c .before .before .before .before .before .before .entry .ensures) (c .before .before .before .before .if2 .taken) (c .before .before .stop .ensures), c .before .area .given ∙ c .before .before .before .before .before .before .before .before .before .before .loop .inv .1)
+loop-again c =
+    let t = c .before .before .before .before in
+    let k = t .before .before .before in
+    let l = k .before .before .before in (
+      stopping-more (l .before .before .before .pre .1) (l .loop .inv .0) (k .if1 .taken) (t .before .before .entry .ensures) (t .if2 .taken)
+          (c .before .before .stop .ensures),
+      c .before .area .given ∙ l .loop .inv .1,
+    )
 
 returns : tie.Need-returns Inv-loop μ-loop
-returns c = stopping-rest (c .before .before .before .before .before .before .before .before .before .pre .1) (c .before .before .before .before .before .before .loop .inv .0) (c .before .before .before .if1 .taken) (c .before .before .entry .ensures) (c .if2 .left)
+returns c =
+    let t = c .before .before .before in
+    let l = t .before .before .before in
+    stopping-rest (l .before .before .before .pre .1) (l .loop .inv .0) (t .if1 .taken) (c .before .before .entry .ensures) (c .if2 .left)
 
 returns-2 : tie.Need-returns-2 Inv-loop μ-loop
 returns-2 c = stopping-past (c .before .before .before .loop .inv .0) (c .if1 .left)

@@ -9,10 +9,13 @@ returns : tie.Need-returns
 returns c = simp (sym (c .before .before .moves-up .ensures) ∙ c .before .if1 .taken)
 
 returns-2 : tie.Need-returns-2
-returns-2 c = simp (sym (c .before .before .before .before .moves-up .ensures) ∙ c .before .before .before .if1 .left, sym (c .before .before .moves-down .ensures) ∙ c .before .if2 .taken)
+returns-2 c =
+    let t = c .before .before .before in
+    simp (sym (t .before .moves-up .ensures) ∙ t .if1 .left, sym (c .before .before .moves-down .ensures) ∙ c .before .if2 .taken)
 
 returns-3 : tie.Need-returns-3
-returns-3 c = simp (zero-is, sym (c .before .before .before .moves-up .ensures) ∙ c .before .before .if1 .left, sym (c .before .moves-down .ensures) ∙ c .if2 .left)
+returns-3 c =
+    simp (zero-is, sym (c .before .before .before .moves-up .ensures) ∙ c .before .before .if1 .left, sym (c .before .moves-down .ensures) ∙ c .if2 .left)
 
 pub velocity-at-spec : {M : Type 1} → statement M
 velocity-at-spec =

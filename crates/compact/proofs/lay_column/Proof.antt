@@ -10,10 +10,14 @@ column-slot-requires : tie.Need-column-slot-requires
 column-slot-requires c κs = let s = c .before .pre in (s .0 .few, omega (arith, s .0 .most))
 
 copy-requires : tie.Need-copy-requires
-copy-requires c κs = (vector-room _ (c .before .before .before .before .before .before .before .pre .0) (omega arith), c .before .pair-slot .ensures .second)
+copy-requires c κs =
+    let s = c .before .before .before .before .before .before .before in
+    (vector-room _ (s .pre .0) (omega arith), c .before .pair-slot .ensures .second)
 
 scale-requires : tie.Need-scale-requires
-scale-requires c κs = (vector-room _ (c .before .before .before .before .before .before .before .before .pre .0) (omega arith), c .before .pair-slot2 .ensures .first)
+scale-requires c κs =
+    let s = c .before .before .before .before .before .before .before .before in
+    (vector-room _ (s .pre .0) (omega arith), c .before .pair-slot2 .ensures .first)
 
 returns : tie.Need-returns
 returns c =

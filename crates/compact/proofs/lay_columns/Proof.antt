@@ -22,7 +22,11 @@ lay-column-requires : tie.Need-lay-column-requires Inv-loop μ-loop
 lay-column-requires c κs = (rw (c .before .before .loop .inv .1) (c .before .before .before .before .before .pre), omega arith)
 
 loop-again : tie.Need-loop-again Inv-loop μ-loop
-loop-again c = (laying-more (c .before .before .before .before .before .before .before .before .pre) (c .before .before .before .before .before .loop .inv .0) (omega arith) (c .before .before .lay-column .ensures), c .before .area .given ∙ c .before .before .before .before .before .loop .inv .1)
+loop-again c =
+    let l = c .before .before .before .before .before in (
+      laying-more (l .before .before .before .pre) (l .loop .inv .0) (omega arith) (c .before .before .lay-column .ensures),
+      c .before .area .given ∙ l .loop .inv .1,
+    )
 
 returns : tie.Need-returns Inv-loop μ-loop
 returns c = laying-done (c .before .before .before .before .pre) (c .before .loop .inv .0) (omega arith)

@@ -25,7 +25,9 @@ loop-holds c =
     (lessened-none (length-view _ _ _ (vector-room _ s (omega arith))), refl)
 
 column-slot-requires : tie.Need-column-slot-requires Inv-loop μ-loop
-column-slot-requires c κs = let s = c .before .before .before .before .before .before .before .before .before .pre .0 in (s .few, omega (arith, s .most))
+column-slot-requires c κs =
+    let s = c .before .before .before .before .before .before .before .before .before .pre .0 in
+    (s .few, omega (arith, s .most))
 
 less-requires : tie.Need-less-requires Inv-loop μ-loop
 less-requires c κs =
@@ -43,7 +45,10 @@ loop-again c =
     (next, c .before .area2 .given ∙ l .loop .inv .1)
 
 returns : tie.Need-returns Inv-loop μ-loop
-returns c = lessened-done _ (c .before .before .before .before .before .before .before .before .pre .1) (c .before .before .before .before .before .before .before .before .pre .2) (c .before .before .before .before .scale .ensures) (c .before .loop .inv .0) (omega arith)
+returns c =
+    let s = c .before .before .before .before in
+    let k = s .before .before .before .before in
+    lessened-done _ (k .pre .1) (k .pre .2) (s .scale .ensures) (c .before .loop .inv .0) (omega arith)
 
 pub less-columns-spec : {M : Type 1} → statement M
 less-columns-spec =

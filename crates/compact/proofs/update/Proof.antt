@@ -6,7 +6,10 @@ use Rattle.compact.proofs.update.Statement.{statement}
 use Rattle.compact.proofs.update.Tie as tie
 
 returns : tie.Need-returns
-returns c = pair-taken (c .before .before .before .before .before .before .before .before .dot .ensures) (c .before .before .before .before .before .before .dot2 .ensures) (sym (c .before .before .before .before .before .worth .ensures) ∙ c .before .before .before .before .if1 .taken) (c .before .before .push .ensures)
+returns c =
+    let t = c .before .before .before .before in
+    let d = t .before .before .before .before in
+    pair-taken (d .dot .ensures) (t .before .before .dot2 .ensures) (sym (t .before .worth .ensures) ∙ t .if1 .taken) (c .before .before .push .ensures)
 
 returns-2 : tie.Need-returns-2
 returns-2 c = pair-refused (c .before .before .before .before .dot .ensures) (c .before .before .dot2 .ensures) (sym (c .before .worth .ensures) ∙ c .if1 .left)

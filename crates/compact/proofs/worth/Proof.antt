@@ -10,7 +10,11 @@ returns : tie.Need-returns
 returns c = simp (sym (c .before .is-finite .ensures) ∙ not-true _ (c .if1 .taken))
 
 returns-2 : tie.Need-returns-2
-returns-2 c = simp (sym (c .before .before .before .is-finite .ensures) ∙ not-false _ (c .before .before .if1 .left), sym (c .before .is-finite2 .ensures) ∙ not-true _ (c .if2 .taken))
+returns-2 c =
+    simp (
+      sym (c .before .before .before .is-finite .ensures) ∙ not-false _ (c .before .before .if1 .left),
+      sym (c .before .is-finite2 .ensures) ∙ not-true _ (c .if2 .taken),
+    )
 
 returns-3 : tie.Need-returns-3
 returns-3 c =

@@ -12,27 +12,31 @@ answer-requires : tie.Need-answer-requires
 answer-requires c κs =
     let m = c .before .before .before in
     let k = m .before .before .before .before in
-    read-small (k .read .last .0) (k .read .last .1 .0) (readInput (now (k .before .before .before .before .before .args .input))) (k .read .result) _ (m .read2 .given .1) (k .read .ensures)
+    let s = k .before .before .before .before .before in
+    read-small (k .read .last .0) (k .read .last .1 .0) (readInput (now (s .args .input))) (k .read .result) _ (m .read2 .given .1) (k .read .ensures)
 
 add-result : tie.Need-add-result
 add-result c =
     let k = c .before .before .before .before .before in
+    let s = k .before .before .before .before .before in
     let few =
-    read-few (k .read .last .0) (k .read .last .1 .0) (now (k .before .before .before .before .before .args .input)) (k .read .result) _ (c .before .read3 .given .1) (k .read .ensures) in
+    read-few (k .read .last .0) (k .read .last .1 .0) (now (s .args .input)) (k .read .result) _ (c .before .read3 .given .1) (k .read .ensures) in
     omega (arith, few)
 
 returns : tie.Need-returns
 returns c =
     let m = c .before .before .before .before .before .before in
     let k = m .before .before .before .before in
-    read-kept (k .read .last .0) (k .read .last .1 .0) (readInput (now (k .before .before .before .before .before .args .input))) (k .read .result) _ _ _ _ _ (m .read2 .given .1) (k .read .ensures)
+    let s = k .before .before .before .before .before in
+    read-kept (k .read .last .0) (k .read .last .1 .0) (readInput (now (s .args .input))) (k .read .result) _ _ _ _ _ (m .read2 .given .1) (k .read .ensures)
     (c .before .before .answer .ensures)
 
 returns-2 : tie.Need-returns-2
 returns-2 c =
     let k = c .before .before .before .before .before in
     let a = k .before .before .before .before .before .args in
-    read-refused (k .read .last .0) (k .read .last .1 .0) (readInput (now (a .input))) (k .read .result) _ (length (now (a .out))) _ (c .before .read3 .given .1) (k .read .ensures)
+    read-refused (k .read .last .0) (k .read .last .1 .0) (readInput (now (a .input))) (k .read .result) _ (length (now (a .out))) _
+    (c .before .read3 .given .1) (k .read .ensures)
 
 pub lbfgsb-entry-spec : {M : Type 1} → statement M
 lbfgsb-entry-spec =

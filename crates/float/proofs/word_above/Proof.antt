@@ -21,13 +21,21 @@ sub-result c = search needs
 
 returns-3 : tie.Need-returns-3
 returns-3 c =
-    simp
-    (← (c .before .before .before .float-to-word .ensures), ne-eqb _ _ (c .before .before .if1 .left), ne-eqb _ _ (c .before .if2 .left), lt-ltb _ _ (c .if3 .taken))
+    simp (
+      ← (c .before .before .before .float-to-word .ensures),
+      ne-eqb _ _ (c .before .before .if1 .left),
+      ne-eqb _ _ (c .before .if2 .left),
+      lt-ltb _ _ (c .if3 .taken),
+    )
 
 returns-4 : tie.Need-returns-4
 returns-4 c =
-    simp
-    (← (c .before .before .before .float-to-word .ensures), ne-eqb _ _ (c .before .before .if1 .left), ne-eqb _ _ (c .before .if2 .left), le-ltb _ _ (c .if3 .left))
+    simp (
+      ← (c .before .before .before .float-to-word .ensures),
+      ne-eqb _ _ (c .before .before .if1 .left),
+      ne-eqb _ _ (c .before .if2 .left),
+      le-ltb _ _ (c .if3 .left),
+    )
 
 pub word-above-spec : {M : Type 1} → statement M
 word-above-spec = tie.close (tie.spec float-to-word-requires returns returns-2 add-result sub-result returns-3 returns-4)

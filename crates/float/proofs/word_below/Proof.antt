@@ -28,13 +28,21 @@ add-result-2 c =
 
 returns-3 : tie.Need-returns-3
 returns-3 c =
-    simp
-    (← (c .before .before .before .float-to-word .ensures), ne-eqb _ _ (c .before .before .if1 .left), ne-eqb _ _ (c .before .if2 .left), lt-ltb _ _ (c .if3 .taken))
+    simp (
+      ← (c .before .before .before .float-to-word .ensures),
+      ne-eqb _ _ (c .before .before .if1 .left),
+      ne-eqb _ _ (c .before .if2 .left),
+      lt-ltb _ _ (c .if3 .taken),
+    )
 
 returns-4 : tie.Need-returns-4
 returns-4 c =
-    simp
-    (← (c .before .before .before .float-to-word .ensures), ne-eqb _ _ (c .before .before .if1 .left), ne-eqb _ _ (c .before .if2 .left), le-ltb _ _ (c .if3 .left))
+    simp (
+      ← (c .before .before .before .float-to-word .ensures),
+      ne-eqb _ _ (c .before .before .if1 .left),
+      ne-eqb _ _ (c .before .if2 .left),
+      le-ltb _ _ (c .if3 .left),
+    )
 
 pub word-below-spec : {M : Type 1} → statement M
 word-below-spec = tie.close (tie.spec float-to-word-requires returns add-result returns-2 sub-result add-result-2 returns-3 returns-4)

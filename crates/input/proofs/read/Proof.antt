@@ -12,7 +12,8 @@ returns-2 : tie.Need-returns-2
 returns-2 c =
     let k = c .before .before .before .before in
     let t = k .before .before .before .before in
-    taken-restored _ _ (k .restore .result) _ _ _ _ (t .if1 .left) (t .before .before .before .before .pre .0) (t .before .before .before .before .pre .1) (k .restore .ensures)
+    let s = t .before .before .before .before in
+    taken-restored _ _ (k .restore .result) _ _ _ _ (t .if1 .left) (s .pre .0) (s .pre .1) (k .restore .ensures)
 
 pub read-spec : {M : Type 1} → statement M
 read-spec =

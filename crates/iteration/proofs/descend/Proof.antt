@@ -6,8 +6,10 @@ use Rattle.iteration.proofs.descend.Tie as tie
 
 returns : tie.Need-returns
 returns c =
-    let o = c .before .before .before .before .before .before .before in
-    descend-towards (o .before .before .before .before .pre .0) (o .model .ensures) (c .before .before .before .before .if1 .taken) (c .before .before .towards .ensures)
+    let t = c .before .before .before .before in
+    let o = t .before .before .before in
+    let s = o .before .before .before .before in
+    descend-towards (s .pre .0) (o .model .ensures) (t .if1 .taken) (c .before .before .towards .ensures)
 
 returns-2 : tie.Need-returns-2
 returns-2 c =

@@ -9,7 +9,9 @@ returns : tie.Need-returns
 returns c = still (c .ended .ensures) (iterate-ends _ (c .before .before .gradient-small .ensures) (c .before .if1 .taken))
 
 returns-2 : tie.Need-returns-2
-returns-2 c = steps-as (c .before .before .descend .ensures) (iterate-on _ (c .before .before .before .before .before .gradient-small .ensures) (c .before .before .before .before .if1 .left))
+returns-2 c =
+    let t = c .before .before .before .before in
+    steps-as (c .before .before .descend .ensures) (iterate-on _ (t .before .gradient-small .ensures) (t .if1 .left))
 
 pub iterate-spec : {M : Type 1} → statement M
 iterate-spec =

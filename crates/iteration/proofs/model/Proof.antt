@@ -18,9 +18,10 @@ generalized-cauchy-requires : tie.Need-generalized-cauchy-requires
 generalized-cauchy-requires c κs =
     let f = c .before .before .before .before in
     let b = f .before .before .before .before .before .before in
-    let l = b .before .before .before .before in
+    let a = b .before .before .before in
+    let l = a .before in
     let p = l .before .before .before .pre in
-    (rw (b .before .before .before .area .given) (p .0), prepared (record { laid = l .lay-columns .ensures .0; block = b .block .ensures }) (f .factor .ensures), p .1)
+    (rw (a .area .given) (p .0), prepared (record { laid = l .lay-columns .ensures .0; block = b .block .ensures }) (f .factor .ensures), p .1)
 
 returns : tie.Need-returns
 returns c =
@@ -30,12 +31,14 @@ returns c =
 
 primal-minimize-requires : tie.Need-primal-minimize-requires
 primal-minimize-requires c κs =
-    let g = c .before .before .before .before .before .before .before .before in
+    let a = c .before .before .before .before .before .before .before in
+    let g = a .before in
     let f = g .before .before .before .before .before in
     let b = f .before .before .before .before .before .before in
-    let l = b .before .before .before .before in
+    let r = b .before .before .before in
+    let l = r .before in
     let k = g .generalized-cauchy .ensures .kept .high in (
-      rw (c .before .before .before .before .before .before .before .area2 .given ∙ b .before .before .before .area .given) (l .before .before .before .pre .0),
+      rw (a .area2 .given ∙ r .area .given) (l .before .before .before .pre .0),
       modelled-kept _ k (record { laid = l .lay-columns .ensures .0; block = b .block .ensures }),
       prepared-kept _ k (prepared (record { laid = l .lay-columns .ensures .0; block = b .block .ensures }) (f .factor .ensures)),
     )
@@ -48,9 +51,11 @@ same-length-2 c =
 
 returns-2 : tie.Need-returns-2
 returns-2 c =
-    let g = c .before .before .before .before .before .before .before .before .before .before .before in
+    let t = c .before .before .before .before .before .before .before .before in
+    let g = t .before .before .before in
     let l = g .before .before .before .before .before .before .before .before .before .before .before .before .before .before .before in
-    from-point (l .before .before .before .pre .0) (l .lay-columns .ensures .1) (g .generalized-cauchy .ensures) (not-false _ (c .before .before .before .before .before .before .before .before .if1 .left)) (c .before .before .primal-minimize .ensures)
+    from-point (l .before .before .before .pre .0) (l .lay-columns .ensures .1) (g .generalized-cauchy .ensures) (not-false _ (t .if1 .left))
+    (c .before .before .primal-minimize .ensures)
 
 pub model-spec : {M : Type 1} → statement M
 model-spec =

@@ -6,7 +6,8 @@ use Rattle.iteration.proofs.without_pairs.Tie as tie
 
 returns : tie.Need-returns
 returns c =
-    again-towards (c .before .before .before .before .before .before .before .model .ensures) (c .before .before .before .before .if1 .taken) (c .before .before .towards .ensures)
+    let t = c .before .before .before .before in
+    again-towards (t .before .before .before .model .ensures) (t .if1 .taken) (c .before .before .towards .ensures)
 
 returns-2 : tie.Need-returns-2
 returns-2 c = again-ends (c .before .before .before .before .model .ensures) (c .before .if1 .left) (c .ended .ensures)

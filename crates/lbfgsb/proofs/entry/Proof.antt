@@ -46,8 +46,9 @@ returns-4 c =
 
 copy-words-requires : tie.Need-copy-words-requires
 copy-words-requires c κs =
-    let some = c .before .before .before .before in
-    (entry-room _ _ _ _ _ _ (some .before .before .if2 .left) (c .before .before .before .entry-place .ensures) (c .before .before .length-at .ensures), c .before .if4 .left)
+    let e = c .before .before .before in
+    let some = e .before in
+    (entry-room _ _ _ _ _ _ (some .before .before .if2 .left) (e .entry-place .ensures) (c .before .before .length-at .ensures), c .before .if4 .left)
 
 returns-5 : tie.Need-returns-5
 returns-5 c =

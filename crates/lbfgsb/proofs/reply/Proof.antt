@@ -21,7 +21,8 @@ returns c =
 check-reply-requires : tie.Need-check-reply-requires
 check-reply-requires c κs =
     let s = c .before .before .before .before .before .before in
-    ready-facts (s .args .fit) (length (s .args .area .now)) (held-ready (s .args .fit) (s .args .area .now) (sym (c .before .is-held .ensures) ∙ not-false _ (c .if1 .left))) .ready .n
+    ready-facts (s .args .fit) (length (s .args .area .now))
+    (held-ready (s .args .fit) (s .args .area .now) (sym (c .before .is-held .ensures) ∙ not-false _ (c .if1 .left))) .ready .n
 
 returns-2 : tie.Need-returns-2
 returns-2 c =
@@ -33,21 +34,25 @@ returns-2 c =
 
 keep-requires : tie.Need-keep-requires
 keep-requires c κs =
-    let h = c .before .before .before .before .before in
+    let r = c .before .before .before .before in
+    let h = r .before in
     let s = h .before .before .before .before .before .before in (
       held-ready (s .args .fit) (s .args .area .now) (sym (h .before .is-held .ensures) ∙ not-false _ (h .if1 .left)),
-      passed (c .before .before .enum-told .given .1) (c .before .before .before .before .check-reply .ensures (s .args .area .now) (s .args .gradient .now) refl),
+      passed (c .before .before .enum-told .given .1) (r .check-reply .ensures (s .args .area .now) (s .args .gradient .now) refl),
     )
 
 returns-3 : tie.Need-returns-3
 returns-3 c =
-    let h = c .before .before .before .before .before .before .before .before .before .before in
+    let e = c .before .before .before .before in
+    let t = e .before .before .before in
+    let h = t .before .before .before in
     let s = h .before .before .before .before .before .before in
-    let k = c .before .before .before .before .keep in
+    let k = e .keep in
     let z : length (k .last .1 .0) ≡ length (s .args .area .now) = search needs in
     reply-advanced (replied (s .args .said) (s .args .gradient .now)) (s .args .fit) (k .result) (s .args .area .now) _ (s .args .log .now) _
     (sym (h .before .is-held .ensures) ∙ not-false _ (h .if1 .left))
-    (passed (c .before .before .before .before .before .before .before .enum-told .given .1) (c .before .before .before .before .before .before .before .before .before .check-reply .ensures (s .args .area .now) (s .args .gradient .now) refl)) z (k .ensures .0) (k .ensures .1)
+    (passed (t .enum-told .given .1) (t .before .before .check-reply .ensures (s .args .area .now) (s .args .gradient .now) refl)) z (k .ensures .0)
+    (k .ensures .1)
 
 pub reply-spec : {M : Type 1} → statement M
 reply-spec =

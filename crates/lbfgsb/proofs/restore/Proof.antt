@@ -14,18 +14,31 @@ returns c =
 
 reload-requires : tie.Need-reload-requires
 reload-requires c κs =
-    let a = c .before .before .before .before .before .before .before .before .before .args in
-    parsed-opens (a .input .now) (length (a .area .now)) (c .before .before .before .before .before .check .result) _ _ (c .before .before .before .parsed2 .given .1) (c .before .before .before .before .before .check .ensures)
+    let p = c .before .before .before in
+    let a = p .before .before .before .before .before .before .args in
+    parsed-opens (a .input .now) (length (a .area .now)) (p .before .before .check .result) _ _ (p .parsed2 .given .1) (p .before .before .check .ensures)
 
 returns-2 : tie.Need-returns-2
 returns-2 c =
-    let a = c .before .before .before .before .before .before .before .before .before .before .before .before .before .before .before .args in
-    let k = c .before .before .before .before .before .before .before .before .before .before .before .check in
-    let x = c .before .before .before .before .before .reload in
-    let h = parsed-opens (a .input .now) (length (a .area .now)) (k .result) _ _ (c .before .before .before .before .before .before .before .before .before .parsed2 .given .1) (k .ensures) in
-    answered-restored (a .input .now) (a .fit) (a .area .now) (a .log .now) _ _ h (x .result) (c .answered .result) (x .last .0) (x .last .1 .0) (c .answered .ensures) (x .ensures)
+    let r = c .before .before .before .before .before in
+    let p = r .before .before .before .before in
+    let a = p .before .before .before .before .before .before .args in
+    let k = p .before .before .check in
+    let x = r .reload in
+    let h = parsed-opens (a .input .now) (length (a .area .now)) (k .result) _ _ (p .parsed2 .given .1) (k .ensures) in
+    answered-restored (a .input .now) (a .fit) (a .area .now) (a .log .now) _ _ h (x .result) (c .answered .result) (x .last .0) (x .last .1 .0)
+    (c .answered .ensures) (x .ensures)
 
 pub restore-spec : {M : Type 1} → statement M
 restore-spec =
     tie.close
-    (tie.spec (λ c κs. search needs) (λ c. search needs) (λ c. search needs) reload-requires (λ c κs. search needs) returns (λ c. search needs) (λ c. search needs) returns-2)
+    (tie.spec
+    (λ c κs. search needs)
+    (λ c. search needs)
+    (λ c. search needs)
+    reload-requires
+    (λ c κs. search needs)
+    returns
+    (λ c. search needs)
+    (λ c. search needs)
+    returns-2)

@@ -25,20 +25,23 @@ setup-words-requires c κs =
 add-needed : tie.Need-add-needed
 add-needed c =
     let held = c .before .before .before in
+    let s = held .before .before .before .before .before in
     let f = facts _ _ (sym (held .before .is-held .ensures) ∙ not-false _ (held .if1 .left)) in
-    omega (arith, setup-few (c .before .before .before .before .before .before .before .before .args .fit) (c .setup-words .ensures) (f .ready .n), f .words)
+    omega (arith, setup-few (s .args .fit) (c .setup-words .ensures) (f .ready .n), f .words)
 
 add-needed-2 : tie.Need-add-needed-2
 add-needed-2 c =
     let held = c .before .before .before in
+    let s = held .before .before .before .before .before in
     let f = facts _ _ (sym (held .before .is-held .ensures) ∙ not-false _ (held .if1 .left)) in
-    omega (arith, setup-few (c .before .before .before .before .before .before .before .before .args .fit) (c .setup-words .ensures) (f .ready .n), f .words)
+    omega (arith, setup-few (s .args .fit) (c .setup-words .ensures) (f .ready .n), f .words)
 
 mul-needed : tie.Need-mul-needed
 mul-needed c =
     let held = c .before .before .before in
+    let s = held .before .before .before .before .before in
     let f = facts _ _ (sym (held .before .is-held .ensures) ∙ not-false _ (held .if1 .left)) in
-    omega (arith, setup-few (c .before .before .before .before .before .before .before .before .args .fit) (c .setup-words .ensures) (f .ready .n), f .words)
+    omega (arith, setup-few (s .args .fit) (c .setup-words .ensures) (f .ready .n), f .words)
 
 returns-3 : tie.Need-returns-3
 returns-3 c =
@@ -61,13 +64,14 @@ put-record-requires c κs =
 
 returns-4 : tie.Need-returns-4
 returns-4 c =
-    let short = c .before .before .before .before .before .before .before in
+    let t = c .before .before .before .before in
+    let short = t .before .before .before in
     let held = short .before in
     save-put _ _ _ _ _ _
     (sym (held .before .is-held .ensures) ∙ not-false _ (held .if1 .left))
     (short .if2 .left)
-    (c .before .before .before .before .before .setup-words .ensures)
-    (c .before .before .before .before .if3 .left)
+    (t .before .setup-words .ensures)
+    (t .if3 .left)
     (c .before .before .put-record .ensures)
 
 pub save-spec : {M : Type 1} → statement M

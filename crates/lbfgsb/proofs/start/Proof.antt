@@ -21,12 +21,14 @@ opened-requires c κs = passed (c .before .enum-told .given .1) (c .before .befo
 
 returns-2 : tie.Need-returns-2
 returns-2 c =
+    let e = c .before .before .before .before in
     λ l.
-    let a = c .before .before .before .before .before .before .before .before .before .before .before .args in
+    let a = e .before .before .before .before .before .before .before .args in
     let s = setupIn (a .o) (a .x0 .now) (a .lower .now) (a .upper .now) in
     let f = c .before .before .opened in
     let z : length (f .last .1 .0) ≡ length (a .area .now) = search needs in
-    start-done s (words (a .fit) (a .area .now) l) (words (f .result) (f .last .1 .0) l) (passed (c .before .before .before .before .enum-told .given .1) (c .before .before .before .before .before .before .check-start .ensures (length l)))
+    start-done s (words (a .fit) (a .area .now) l) (words (f .result) (f .last .1 .0) l)
+    (passed (e .enum-told .given .1) (e .before .before .check-start .ensures (length l)))
     (λ i. record { area = z i; log = length l }) refl (f .ensures l)
 
 pub start-spec : {M : Type 1} → statement M

@@ -17,10 +17,14 @@ entry-length-requires : tie.Need-entry-length-requires
 entry-length-requires c κs = omega (arith, c .before .before .before .pre .0)
 
 returns-2 : tie.Need-returns-2
-returns-2 c = sym (ap length (front-cut _ _ _ (c .before .before .before .before .before .pre .1) _ _ (c .before .before .before .if1 .left) (c .before .entry-length .ensures) (c .if2 .taken)))
+returns-2 c =
+    let t = c .before .before .before in
+    sym (ap length (front-cut _ _ _ (t .before .before .pre .1) _ _ (t .if1 .left) (c .before .entry-length .ensures) (c .if2 .taken)))
 
 returns-3 : tie.Need-returns-3
-returns-3 c = front-size _ _ _ (c .before .before .before .before .before .pre .1) _ _ (c .before .before .before .if1 .left) (c .before .entry-length .ensures) (c .if2 .left)
+returns-3 c =
+    let t = c .before .before .before in
+    front-size _ _ _ (t .before .before .pre .1) _ _ (t .if1 .left) (c .before .entry-length .ensures) (c .if2 .left)
 
 pub length-at-spec : {M : Type 1} → statement M
 length-at-spec = tie.close (tie.spec returns (λ c. search needs) read entry-length-requires (λ c. search needs) returns-2 returns-3)

@@ -15,7 +15,8 @@ returns c =
     let trial = held .before .before .before .before in
     let start = trial .before .before .before .before in
     let a = start .before .before .before .args in
-    first-made (a .n) (view (a .area .now) (a .n)) (start .clip-start .ensures) (trial .copy .ensures) (held .fill .ensures) (gradient .fill2 .ensures) (direction .fill3 .ensures)
+    first-made (a .n) (view (a .area .now) (a .n)) (start .clip-start .ensures) (trial .copy .ensures) (held .fill .ensures) (gradient .fill2 .ensures)
+    (direction .fill3 .ensures)
 
 pub first-vectors-spec : {M : Type 1} → statement M
 first-vectors-spec =

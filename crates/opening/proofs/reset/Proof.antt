@@ -9,13 +9,15 @@ use Rattle.opening.proofs.reset.Tie as tie
 
 returns : tie.Need-returns
 returns c =
-    let s = c .before .before .before .before .before .before .before .before .before .before in
+    let f = c .before .before .before in
+    let b = f .before .before .before .before in
+    let s = b .before .before .before in
     let o = s .args .o in
     let n = s .args .n in
     let a = s .args .area .now in
     let v = view a n in
     opened (firstVectors n (boxed (o .bounded) n v)) (s .pre) (c .first-fit .ensures) (search needs)
-    (c .before .before .before .first-vectors .ensures ∙ ap (firstVectors n) (c .before .before .before .before .before .before .before .open-box .ensures))
+    (f .first-vectors .ensures ∙ ap (firstVectors n) (b .open-box .ensures))
     (setup-stays o n v) (first-saved (o .bounded) n v) (begins o n v (start-long a (s .pre)))
 
 pub reset-spec : {M : Type 1} → statement M

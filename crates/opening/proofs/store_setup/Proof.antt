@@ -6,10 +6,15 @@ use Rattle.opening.proofs.store_setup.Statement.{statement}
 use Rattle.opening.proofs.store_setup.Tie as tie
 
 store-requires-2 : tie.Need-store-requires-2
-store-requires-2 c κs = (search needs, c .before .before .before .before .before .before .before .before .before .before .pre .2 (c .before .if1 .taken))
+store-requires-2 c κs =
+    let s = c .before .before .before .before .before .before .before .before .before .before in
+    (search needs, s .pre .2 (c .before .if1 .taken))
 
 store-requires-3 : tie.Need-store-requires-3
-store-requires-3 c κs = (search needs, c .before .before .before .before .before .before .before .before .before .before .before .before .before .before .pre .3 (c .before .before .before .before .before .if1 .taken))
+store-requires-3 c κs =
+    let t = c .before .before .before .before .before in
+    let s = t .before .before .before .before .before .before .before .before .before in
+    (search needs, s .pre .3 (t .if1 .taken))
 
 returns : tie.Need-returns
 returns c =
@@ -21,8 +26,9 @@ returns c =
 
 returns-2 : tie.Need-returns-2
 returns-2 c =
-    let a = c .before .before .before .before .before .before .before .before .before .args in
-    stored-start (view (a .area .now) (a .n)) (c .before .before .before .store .ensures) (c .if1 .left)
+    let s = c .before .before .before in
+    let a = s .before .before .before .before .before .before .args in
+    stored-start (view (a .area .now) (a .n)) (s .store .ensures) (c .if1 .left)
 
 pub store-setup-spec : {M : Type 1} → statement M
 store-setup-spec =

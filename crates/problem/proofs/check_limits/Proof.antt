@@ -6,7 +6,27 @@ use Rattle.problem.proofs.check_limits.Tie as tie
 
 returns : tie.Need-returns
 unfolding checkLimits
-returns c l u = simp (c .first-of3 .ensures, c .before .first-of2 .ensures, c .before .before .at-most4 .ensures, c .before .before .before .at-most3 .ensures, c .before .before .before .before .first-of .ensures, c .before .before .before .before .before .at-most2 .ensures, c .before .before .before .before .before .before .at-most .ensures)
+returns c l u =
+    let a = c .before .before .before in
+    simp (
+      c .first-of3 .ensures,
+      c .before .first-of2 .ensures,
+      c .before .before .at-most4 .ensures,
+      a .at-most3 .ensures,
+      a .before .first-of .ensures,
+      a .before .before .at-most2 .ensures,
+      a .before .before .before .at-most .ensures,
+    )
 
 pub check-limits-spec : {M : Type 1} → statement M
-check-limits-spec = tie.close (tie.spec (λ c κs. search needs) (λ c κs. search needs) (λ c κs. search needs) (λ c κs. search needs) (λ c κs. search needs) (λ c κs. search needs) (λ c κs. search needs) returns)
+check-limits-spec =
+    tie.close
+    (tie.spec
+    (λ c κs. search needs)
+    (λ c κs. search needs)
+    (λ c κs. search needs)
+    (λ c κs. search needs)
+    (λ c κs. search needs)
+    (λ c κs. search needs)
+    (λ c κs. search needs)
+    returns)

@@ -6,7 +6,27 @@ use Rattle.problem.proofs.check_options.Tie as tie
 
 returns : tie.Need-returns
 unfolding checkOptions
-returns c x0 l u = simp (c .first-of3 .ensures, c .before .first-of2 .ensures, c .before .before .finite-nonnegative2 .ensures, c .before .before .before .finite-nonnegative .ensures, c .before .before .before .before .first-of .ensures, c .before .before .before .before .before .finite-positive .ensures, c .before .before .before .before .before .before .positive .ensures)
+returns c x0 l u =
+    let f = c .before .before .before in
+    simp (
+      c .first-of3 .ensures,
+      c .before .first-of2 .ensures,
+      c .before .before .finite-nonnegative2 .ensures,
+      f .finite-nonnegative .ensures,
+      f .before .first-of .ensures,
+      f .before .before .finite-positive .ensures,
+      f .before .before .before .positive .ensures,
+    )
 
 pub check-options-spec : {M : Type 1} → statement M
-check-options-spec = tie.close (tie.spec (λ c κs. search needs) (λ c κs. search needs) (λ c κs. search needs) (λ c κs. search needs) (λ c κs. search needs) (λ c κs. search needs) (λ c κs. search needs) returns)
+check-options-spec =
+    tie.close
+    (tie.spec
+    (λ c κs. search needs)
+    (λ c κs. search needs)
+    (λ c κs. search needs)
+    (λ c κs. search needs)
+    (λ c κs. search needs)
+    (λ c κs. search needs)
+    (λ c κs. search needs)
+    returns)

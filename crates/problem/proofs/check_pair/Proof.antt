@@ -13,4 +13,16 @@ returns-3 : tie.Need-returns-3
 returns-3 c = simp (c .before .before .if1 .left, ← c .before .infeasible .ensures, c .if2 .left)
 
 pub check-pair-spec : {M : Type 1} → statement M
-check-pair-spec = tie.close (tie.spec (λ c. search needs) (λ c. search needs) (λ c. search needs) (λ c. search needs) (λ c κs. search needs) returns (λ c κs. search needs) (λ c κs. search needs) returns-2 returns-3)
+check-pair-spec =
+    tie.close
+    (tie.spec
+    (λ c. search needs)
+    (λ c. search needs)
+    (λ c. search needs)
+    (λ c. search needs)
+    (λ c κs. search needs)
+    returns
+    (λ c κs. search needs)
+    (λ c κs. search needs)
+    returns-2
+    returns-3)

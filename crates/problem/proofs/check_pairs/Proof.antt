@@ -20,13 +20,31 @@ loop-holds : tie.Need-loop-holds Inv-loop μ-loop
 loop-holds c = clear-none _ _
 
 returns : tie.Need-returns Inv-loop μ-loop
-returns c = let e = c .enum-told2 .given .1 in rw e (clear-refused _ (c .before .before .before .before .loop .inv) (omega arith) (sym (c .before .before .check-pair .ensures) ∙ ap checkOf e))
+returns c =
+    let l = c .before .before .before .before in
+    let e = c .enum-told2 .given .1 in
+    rw e (clear-refused _ (l .loop .inv) (omega arith) (sym (c .before .before .check-pair .ensures) ∙ ap checkOf e))
 
 loop-again : tie.Need-loop-again Inv-loop μ-loop
-loop-again c = clear-more (c .before .before .before .before .loop .inv) (omega arith) (sym (c .before .before .check-pair .ensures) ∙ ap checkOf (c .enum-told .given .1))
+loop-again c =
+    let l = c .before .before .before .before in
+    clear-more (l .loop .inv) (omega arith) (sym (c .before .before .check-pair .ensures) ∙ ap checkOf (c .enum-told .given .1))
 
 returns-2 : tie.Need-returns-2 Inv-loop μ-loop
 returns-2 c = clear-done (c .before .loop .inv) (omega arith)
 
 pub check-pairs-spec : {M : Type 1} → statement M
-check-pairs-spec = tie.close (tie.spec Inv-loop μ-loop loop-holds (λ c κs. search needs) (λ c. search needs) (λ c. search needs) returns (λ c. search needs) (λ c. search needs) loop-again returns-2)
+check-pairs-spec =
+    tie.close
+    (tie.spec
+    Inv-loop
+    μ-loop
+    loop-holds
+    (λ c κs. search needs)
+    (λ c. search needs)
+    (λ c. search needs)
+    returns
+    (λ c. search needs)
+    (λ c. search needs)
+    loop-again
+    returns-2)

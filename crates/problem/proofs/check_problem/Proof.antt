@@ -12,11 +12,22 @@ returns c = simp (c .refused .ensures, eq-eqb _ _ (c .before .if1 .taken))
 
 returns-2 : tie.Need-returns-2
 unfolding checkProblem
-returns-2 c = simp (c .first-of .ensures, c .before .check-bounds .ensures, c .before .before .if2 .taken, c .before .before .before .check-start .ensures, ne-eqb _ _ (c .before .before .before .before .if1 .left))
+returns-2 c =
+    let s = c .before .before .before in
+    simp (c .first-of .ensures, c .before .check-bounds .ensures, c .before .before .if2 .taken, s .check-start .ensures, ne-eqb _ _ (s .before .if1 .left))
 
 returns-3 : tie.Need-returns-3
 unfolding checkProblem
 returns-3 c = simp (then-none, c .if2 .left, c .before .check-start .ensures, ne-eqb _ _ (c .before .before .if1 .left))
 
 pub check-problem-spec : {M : Type 1} → statement M
-check-problem-spec = tie.close (tie.spec (λ c κs. search needs) returns (λ c κs. search needs) (λ c κs. search needs) (λ c κs. search needs) returns-2 returns-3)
+check-problem-spec =
+    tie.close
+    (tie.spec
+    (λ c κs. search needs)
+    returns
+    (λ c κs. search needs)
+    (λ c κs. search needs)
+    (λ c κs. search needs)
+    returns-2
+    returns-3)

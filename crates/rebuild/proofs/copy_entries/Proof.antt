@@ -21,4 +21,19 @@ returns : tie.Need-returns Inv-loop μ-loop
 returns c = search laws
 
 pub copy-entries-spec : {M : Type 1} → statement M
-copy-entries-spec = tie.close (tie.spec Inv-loop μ-loop loop-holds (λ c. search laws) (λ c. search laws) (λ c κs. search laws) (λ c. search laws) (λ c. search laws) (λ c. search laws) (λ c. search laws) loop-again (λ c. search laws) returns)
+copy-entries-spec =
+    tie.close
+    (tie.spec
+    Inv-loop
+    μ-loop
+    loop-holds
+    (λ c. search laws)
+    (λ c. search laws)
+    (λ c κs. search laws)
+    (λ c. search laws)
+    (λ c. search laws)
+    (λ c. search laws)
+    (λ c. search laws)
+    loop-again
+    (λ c. search laws)
+    returns)

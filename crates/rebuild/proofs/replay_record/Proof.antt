@@ -20,21 +20,29 @@ begin-from-requires c κs =
     (opens-room (s .args .input .now) (length (s .args .area .now)) (s .args .o) (s .args .f) (s .pre), omega (arith, long, s .pre .most))
 
 sub-words : tie.Need-sub-words
-sub-words c = omega (arith, c .before .before .before .before .before .before .before .before .before .before .pre .whole)
+sub-words c =
+    let s = c .before .before .before .before .before .before .before .before .before .before in
+    omega (arith, s .pre .whole)
 
 mul-t16 : tie.Need-mul-t16
-mul-t16 c = let s = c .before .before .before .before .before .before .before .before .before .before .before in omega (arith, s .pre .whole, s .pre .placed .within, s .good .1 .1 .0)
+mul-t16 c =
+    let s = c .before .before .before .before .before .before .before .before .before .before .before in
+    omega (arith, s .pre .whole, s .pre .placed .within, s .good .1 .1 .0)
 
 add-t17 : tie.Need-add-t17
-add-t17 c = let s = c .before .before .before .before .before .before .before .before .before .before .before .before in omega (arith, s .pre .whole, s .pre .placed .within, s .good .1 .1 .0)
+add-t17 c =
+    let s = c .before .before .before .before .before .before .before .before .before .before .before .before in
+    omega (arith, s .pre .whole, s .pre .placed .within, s .good .1 .1 .0)
 
 replay-requires : tie.Need-replay-requires
 replay-requires c κs =
-    let s = c .before .before .before .before .before .before .before .before .before .before .before .before .before in
-    let r = c .before .before .before .before .before .before .begin-from in
+    let b = c .before .before .before .before .before .before in
+    let v = b .before .before .before in
+    let s = v .before .before .before .before in
+    let r = b .begin-from in
     let a = s .args in
     let k = record-opened (a .input .now) (length (a .area .now)) (a .o) (a .f) (s .pre)
-    (c .before .before .before .before .before .before .before .before .before .vectors .ensures) (r .ensures) in (
+    (v .vectors .ensures) (r .ensures) in (
       record { logged = λ e. absurd (false≢true (sym e)); recorded = λ e. entries-within (a .input .now) (length (a .area .now)) (a .o) (a .f) (s .pre) },
       record-ready (a .input .now) (length (a .area .now)) (a .o) (a .f) (s .pre) refl k,
       k .entries,

@@ -40,4 +40,14 @@ returns-2 c =
 pub shorten-spec : {M : Type 1} → statement M
 shorten-spec =
     tie.close
-    (tie.spec (λ c κs. search needs) (λ c. search needs) (λ c. search needs) (λ c. search needs) (λ c. search needs) returns zero-log-requires (λ c. search needs) (λ c. search needs) returns-2)
+    (tie.spec
+    (λ c κs. search needs)
+    (λ c. search needs)
+    (λ c. search needs)
+    (λ c. search needs)
+    (λ c. search needs)
+    returns
+    zero-log-requires
+    (λ c. search needs)
+    (λ c. search needs)
+    returns-2)

@@ -17,8 +17,9 @@ check-rows-requires c κs = let k = c .before .before .pre in (formed-placed _ _
 
 returns : tie.Need-returns
 returns c =
-    let at = c .before .before .before .before .before .before in
-    rows-refused (now (at .args .input)) (at .args .f) (at .pre) (at .args .area) _ (sym (ap checkOf (c .before .rows .given .1)) ∙ c .before .before .before .check-rows .ensures)
+    let r = c .before .before .before in
+    let at = r .before .before .before in
+    rows-refused (now (at .args .input)) (at .args .f) (at .pre) (at .args .area) _ (sym (ap checkOf (c .before .rows .given .1)) ∙ r .check-rows .ensures)
 
 words-requires : tie.Need-words-requires
 words-requires c κs =
@@ -27,19 +28,37 @@ words-requires c κs =
 
 returns-2 : tie.Need-returns-2
 returns-2 c =
-    let at = c .before .before .before .before .before .before .before .before .before in
+    let p = c .before .before .before in
+    let r = p .before .before .before in
+    let at = r .before .before .before in
     let k = at .pre in
-    let passed = sym (ap checkOf (c .before .before .before .before .enum-told .given .1)) ∙ c .before .before .before .before .before .before .check-rows .ensures in
-    let same = needed _ _ (formed-placed _ _ k) (formed-whole _ _ k) _ (c .before .before .before .before .before .before .before .options-of .ensures) _ _ (c .before .before .before .places .ensures) (c .before .before .words .ensures) in
+    let passed = sym (ap checkOf (p .before .enum-told .given .1)) ∙ r .check-rows .ensures in
+    let same =
+    needed _ _ (formed-placed _ _ k) (formed-whole _ _ k) _ (r .before .options-of .ensures) _ _ (p .places .ensures) (c .before .before .words .ensures) in
     subst (Parsing _ _) (sym (c .refused .ensures)) (area-refused _ _ k _ _ passed same (c .before .if1 .taken))
 
 returns-3 : tie.Need-returns-3
 returns-3 c =
-    let at = c .before .before .before .before .before .before .before .before in
+    let e = c .before .before .before in
+    let o = e .before .before .before in
+    let at = o .before .before in
     let k = at .pre in
-    let passed = sym (ap checkOf (c .before .before .before .enum-told .given .1)) ∙ c .before .before .before .before .before .check-rows .ensures in
-    let same = needed _ _ (formed-placed _ _ k) (formed-whole _ _ k) _ (c .before .before .before .before .before .before .options-of .ensures) _ _ (c .before .before .places .ensures) (c .before .words .ensures) in
-    opens _ _ k _ _ _ (c .before .before .before .before .before .before .options-of .ensures) passed same (c .if1 .left)
+    let passed = sym (ap checkOf (e .enum-told .given .1)) ∙ e .before .before .check-rows .ensures in
+    let same =
+    needed _ _ (formed-placed _ _ k) (formed-whole _ _ k) _ (o .options-of .ensures) _ _ (c .before .before .places .ensures) (c .before .words .ensures) in
+    opens _ _ k _ _ _ (o .options-of .ensures) passed same (c .if1 .left)
 
 pub check-setup-spec : {M : Type 1} → statement M
-check-setup-spec = tie.close (tie.spec options-of-requires check-rows-requires (λ c. search needs) returns (λ c. search needs) (λ c κs. search needs) words-requires (λ c κs. search needs) returns-2 returns-3)
+check-setup-spec =
+    tie.close
+    (tie.spec
+    options-of-requires
+    check-rows-requires
+    (λ c. search needs)
+    returns
+    (λ c. search needs)
+    (λ c κs. search needs)
+    words-requires
+    (λ c κs. search needs)
+    returns-2
+    returns-3)

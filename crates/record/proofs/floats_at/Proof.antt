@@ -20,4 +20,20 @@ returns : tie.Need-returns Inv-loop μ-loop
 returns c = search laws
 
 pub floats-at-spec : {M : Type 1} → statement M
-floats-at-spec = tie.close (tie.spec Inv-loop μ-loop (λ c κs. search laws) loop-holds (λ c. search laws) (λ c. search laws) (λ c κs. search laws) (λ c κs. search laws) (λ c. search laws) (λ c. search laws) (λ c. search laws) (λ c. search laws) loop-again returns)
+floats-at-spec =
+    tie.close
+    (tie.spec
+    Inv-loop
+    μ-loop
+    (λ c κs. search laws)
+    loop-holds
+    (λ c. search laws)
+    (λ c. search laws)
+    (λ c κs. search laws)
+    (λ c κs. search laws)
+    (λ c. search laws)
+    (λ c. search laws)
+    (λ c. search laws)
+    (λ c. search laws)
+    loop-again
+    returns)

@@ -34,9 +34,11 @@ word-of-requires c κs =
 
 returns : tie.Need-returns
 returns c =
-    let bs = now (c .before .before .before .before .args .input) in
-    let long = framed-fits bs (c .before .before .before .before .pre) .long in
-    frame-same bs _ _ _ (trailer-word bs 3 (length bs - 8) _ long (omega arith) (omega (arith, long)) (c .before .before .word-at .ensures)) (c .before .word-of .ensures) (c .setup-length .ensures)
+    let s = c .before .before .before .before in
+    let bs = now (s .args .input) in
+    let long = framed-fits bs (s .pre) .long in
+    frame-same bs _ _ _ (trailer-word bs 3 (length bs - 8) _ long (omega arith) (omega (arith, long)) (c .before .before .word-at .ensures))
+    (c .before .word-of .ensures) (c .setup-length .ensures)
 
 pub frame-of-spec : {M : Type 1} → statement M
 frame-of-spec = tie.close (tie.spec sub-word-at word-at-requires sub-at mul-at sub-at-2 word-of-requires (λ c κs. search needs) returns)

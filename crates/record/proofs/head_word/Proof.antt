@@ -10,7 +10,25 @@ returns : tie.Need-returns
 returns c = rw (c .before .if1 .taken) (c .shape-word .ensures)
 
 returns-7 : tie.Need-returns-7
-returns-7 c = let e : _≡_ {A = ℕ} (c .before .before .before .before .before .before .before .args .i) 6 = omega arith in rw e (c .float-word4 .ensures)
+returns-7 c =
+    let s = c .before .before .before .before .before .before .before in
+    let e : _≡_ {A = ℕ} (s .args .i) 6 = omega arith in rw e (c .float-word4 .ensures)
 
 pub head-word-spec : {M : Type 1} → statement M
-head-word-spec = tie.close (tie.spec (λ c κs. search needs) returns (λ c κs. search needs) (λ c. search needs) (λ c κs. search needs) (λ c. search needs) (λ c κs. search needs) (λ c. search needs) (λ c κs. search needs) (λ c. search needs) (λ c κs. search needs) (λ c. search needs) (λ c κs. search needs) returns-7)
+head-word-spec =
+    tie.close
+    (tie.spec
+    (λ c κs. search needs)
+    returns
+    (λ c κs. search needs)
+    (λ c. search needs)
+    (λ c κs. search needs)
+    (λ c. search needs)
+    (λ c κs. search needs)
+    (λ c. search needs)
+    (λ c κs. search needs)
+    (λ c. search needs)
+    (λ c κs. search needs)
+    (λ c. search needs)
+    (λ c κs. search needs)
+    returns-7)

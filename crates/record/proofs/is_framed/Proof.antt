@@ -18,8 +18,10 @@ returns-2 c =
 
 returns-3 : tie.Need-returns-3
 returns-3 c =
-    let bs = now (c .before .before .before .before .before .args .input) in
-    framed-by bs (c .before .before .before .if1 .left) _ (length bs - 16) _ (length bs - 8) (omega arith) (omega arith) (c .before .before .word-at .ensures) (c .before .if2 .left) (c .word-at2 .ensures)
+    let t = c .before .before .before in
+    let bs = now (t .before .before .args .input) in
+    framed-by bs (t .if1 .left) _ (length bs - 16) _ (length bs - 8) (omega arith) (omega arith) (c .before .before .word-at .ensures) (c .before .if2 .left)
+    (c .word-at2 .ensures)
 
 pub is-framed-spec : {M : Type 1} → statement M
 is-framed-spec = tie.close (tie.spec returns (λ c. search needs) (λ c κs. search needs) returns-2 (λ c. search needs) (λ c κs. search needs) returns-3)

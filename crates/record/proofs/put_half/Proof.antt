@@ -21,4 +21,19 @@ unfolding bytesOf
 returns c = four-put _ _ _ _ _ _ (c .pre)
 
 pub put-half-spec : {M : Type 1} → statement M
-put-half-spec = tie.close (tie.spec (λ c. search needs) (λ c. search needs) (λ c. search needs) (λ c. search needs) slice-write-out-2 (λ c. search needs) (λ c. search needs) slice-write-out-3 (λ c. search needs) (λ c. search needs) slice-write-out-4 (λ c. search needs) returns)
+put-half-spec =
+    tie.close
+    (tie.spec
+    (λ c. search needs)
+    (λ c. search needs)
+    (λ c. search needs)
+    (λ c. search needs)
+    slice-write-out-2
+    (λ c. search needs)
+    (λ c. search needs)
+    slice-write-out-3
+    (λ c. search needs)
+    (λ c. search needs)
+    slice-write-out-4
+    (λ c. search needs)
+    returns)

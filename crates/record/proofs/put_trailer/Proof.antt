@@ -9,10 +9,26 @@ use Rattle.record.proofs.put_trailer.Tie as tie
 
 returns : tie.Need-returns
 returns c =
-    let at = c .before .before .before .before .before .before .before .before .before .before .before .before .before .before .before .before .before in
+    let p = c .before .before .before .before .before .before in
+    let w = p .before .before .before .before in
+    let u = w .before .before .before .before in
+    let at = u .before .before .before in
     let a = at .args in
     c .before .before .put-word4 .ensures
-    ∙ trailer-put (now (a .out)) _ _ _ (8 * a .count) (a .t .plain) (a .t .running) 1 (a .count) (at .pre) (c .before .before .before .before .before .before .before .before .before .before .before .before .before .before .put-word .ensures) (c .before .before .before .before .before .before .before .before .before .before .put-word2 .ensures) (c .before .before .before .before .before .before .put-word3 .ensures)
+    ∙ trailer-put (now (a .out)) _ _ _ (8 * a .count) (a .t .plain) (a .t .running) 1 (a .count) (at .pre) (u .put-word .ensures) (w .put-word2 .ensures)
+    (p .put-word3 .ensures)
 
 pub put-trailer-spec : {M : Type 1} → statement M
-put-trailer-spec = tie.close (tie.spec (λ c. search needs) (λ c κs. search needs) (λ c. search needs) (λ c κs. search needs) (λ c. search needs) (λ c κs. search needs) (λ c. search needs) (λ c κs. search needs) (λ c. search needs) returns)
+put-trailer-spec =
+    tie.close
+    (tie.spec
+    (λ c. search needs)
+    (λ c κs. search needs)
+    (λ c. search needs)
+    (λ c κs. search needs)
+    (λ c. search needs)
+    (λ c κs. search needs)
+    (λ c. search needs)
+    (λ c κs. search needs)
+    (λ c. search needs)
+    returns)

@@ -26,10 +26,15 @@ loop-holds : tie.Need-loop-holds Inv-loop μ-loop
 loop-holds c =
     let at = c .before .before .before .before .before .before in
     let a = at .args in
-    writing-none (savedWords (a .o) (now (a .x0)) (now (a .lower)) (now (a .upper)) (now (a .log))) (now (a .out)) _ (ap (λ (k : ℕ). k + length (now (a .log))) (c .setup-words .ensures) ∙ sym (saved-size (a .o) (now (a .x0)) (now (a .lower)) (now (a .upper)) (at .pre .0) (now (a .log)))) (omega (arith, at .pre .1, c .setup-words .ensures))
+    writing-none (savedWords (a .o) (now (a .x0)) (now (a .lower)) (now (a .upper)) (now (a .log))) (now (a .out)) _
+    (ap (λ (k : ℕ). k + length (now (a .log))) (c .setup-words .ensures)
+    ∙ sym (saved-size (a .o) (now (a .x0)) (now (a .lower)) (now (a .upper)) (at .pre .0) (now (a .log))))
+    (omega (arith, at .pre .1, c .setup-words .ensures))
 
 saved-word-requires : tie.Need-saved-word-requires Inv-loop μ-loop
-saved-word-requires c κs = (c .before .before .before .before .before .before .before .before .pre .0, omega (arith, c .before .before .setup-words .ensures))
+saved-word-requires c κs =
+    let s = c .before .before .before .before .before .before .before .before in
+    (s .pre .0, omega (arith, c .before .before .setup-words .ensures))
 
 mul-put-word : tie.Need-mul-put-word Inv-loop μ-loop
 mul-put-word c = omega (arith, c .before .before .before .loop .inv .room)
@@ -39,7 +44,9 @@ put-word-requires c κs = omega (arith, c .before .before .before .loop .inv .ro
 
 loop-again : tie.Need-loop-again Inv-loop μ-loop
 loop-again c =
-    writing-more (c .before .before .before .before .before .before .before .loop .inv) (omega arith) (c .before .before .before .before .before .saved-word .ensures) (c .before .before .before .put-word .ensures) (c .added .ensures)
+    let p = c .before .before .before in
+    let l = p .before .before .before .before in
+    writing-more (l .loop .inv) (omega arith) (p .before .before .saved-word .ensures) (p .put-word .ensures) (c .added .ensures)
 
 same-length : tie.Need-same-length Inv-loop μ-loop
 same-length c = c .before .loop .inv .long
@@ -48,4 +55,20 @@ returns : tie.Need-returns Inv-loop μ-loop
 returns c = writing-done (c .before .loop .inv) (omega arith)
 
 pub put-words-spec : {M : Type 1} → statement M
-put-words-spec = tie.close (tie.spec Inv-loop μ-loop setup-words-requires add-count loop-holds saved-word-requires mul-put-word put-word-requires (λ c κs. search needs) (λ c. search needs) (λ c. search needs) loop-again same-length returns)
+put-words-spec =
+    tie.close
+    (tie.spec
+    Inv-loop
+    μ-loop
+    setup-words-requires
+    add-count
+    loop-holds
+    saved-word-requires
+    mul-put-word
+    put-word-requires
+    (λ c κs. search needs)
+    (λ c. search needs)
+    (λ c. search needs)
+    loop-again
+    same-length
+    returns)

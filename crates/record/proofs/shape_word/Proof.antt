@@ -25,4 +25,15 @@ returns : tie.Need-returns
 returns c = search needs
 
 pub shape-word-spec : {M : Type 1} → statement M
-shape-word-spec = tie.close (tie.spec (λ c κs. search needs) (λ c κs. search needs) add-flags (λ c κs. search needs) (λ c. search needs) (λ c. search needs) mul-result-2 add-result-2 returns)
+shape-word-spec =
+    tie.close
+    (tie.spec
+    (λ c κs. search needs)
+    (λ c κs. search needs)
+    add-flags
+    (λ c κs. search needs)
+    (λ c. search needs)
+    (λ c. search needs)
+    mul-result-2
+    add-result-2
+    returns)

@@ -15,9 +15,22 @@ returns c =
 
 returns-2 : tie.Need-returns-2
 returns-2 c =
-    let at = c .before .before .before .before .before .before .before .before .before in
-    let t = c .before .before .before .before .before .before .before .sums-at .ensures in
-    running-tells (now (at .args .input)) (at .args .f) (at .pre) _ _ _ _ (ap (λ (s : Sums). s .plain) t) (ap (λ (s : Sums). s .running) t) (c .before .before .before .before .word-at .ensures) (c .before .word-at2 .ensures) (c .before .before .if1 .left)
+    let w = c .before .before .before .before in
+    let a = w .before .before .before in
+    let at = a .before .before in
+    let t = a .sums-at .ensures in
+    running-tells (now (at .args .input)) (at .args .f) (at .pre) _ _ _ _ (ap (λ (s : Sums). s .plain) t) (ap (λ (s : Sums). s .running) t)
+    (w .word-at .ensures) (c .before .word-at2 .ensures) (c .before .before .if1 .left)
 
 pub sums-agree-spec : {M : Type 1} → statement M
-sums-agree-spec = tie.close (tie.spec (λ c κs. search needs) (λ c. search needs) (λ c. search needs) (λ c κs. search needs) returns (λ c. search needs) (λ c κs. search needs) returns-2)
+sums-agree-spec =
+    tie.close
+    (tie.spec
+    (λ c κs. search needs)
+    (λ c. search needs)
+    (λ c. search needs)
+    (λ c κs. search needs)
+    returns
+    (λ c. search needs)
+    (λ c κs. search needs)
+    returns-2)

@@ -21,4 +21,17 @@ returns : tie.Need-returns Inv-loop μ-loop
 returns c = search laws
 
 pub sums-at-spec : {M : Type 1} → statement M
-sums-at-spec = tie.close (tie.spec Inv-loop μ-loop loop-holds (λ c. search laws) (λ c. search laws) (λ c κs. search laws) (λ c κs. search laws) (λ c. search laws) (λ c. search laws) loop-again returns)
+sums-at-spec =
+    tie.close
+    (tie.spec
+    Inv-loop
+    μ-loop
+    loop-holds
+    (λ c. search laws)
+    (λ c. search laws)
+    (λ c κs. search laws)
+    (λ c κs. search laws)
+    (λ c. search laws)
+    (λ c. search laws)
+    loop-again
+    returns)

@@ -12,11 +12,15 @@ use Rattle.record.proofs.write.Tie as tie
 
 returns : tie.Need-returns
 returns c =
-    let at = c .before .before .before .before .before .before .before .before .before .before .before .before .before .before in
+    let s = c .before .before .before .before in
+    let p = s .before .before .before in
+    let at = p .before .before .before .before .before .before .before in
     let a = at .args in
     let log = now (a .log) in
-    let size = ap (λ (k : ℕ). k + length log) (c .before .before .before .before .setup-words .ensures) ∙ sym (saved-size (a .o) (now (a .x0)) (now (a .lower)) (now (a .upper)) (at .pre .0) log) in
-    record-put (savedWords (a .o) (now (a .x0)) (now (a .lower)) (now (a .upper)) log) (now (a .out)) _ _ _ _ (c .before .before .before .before .before .before .before .put-words .ensures) size (omega (arith, at .pre .1, c .before .before .before .before .setup-words .ensures)) (c .before .before .put-trailer .ensures)
+    let size =
+    ap (λ (k : ℕ). k + length log) (s .setup-words .ensures) ∙ sym (saved-size (a .o) (now (a .x0)) (now (a .lower)) (now (a .upper)) (at .pre .0) log) in
+    record-put (savedWords (a .o) (now (a .x0)) (now (a .lower)) (now (a .upper)) log) (now (a .out)) _ _ _ _ (p .put-words .ensures) size
+    (omega (arith, at .pre .1, s .setup-words .ensures)) (c .before .before .put-trailer .ensures)
 
 pub write-spec : {M : Type 1} → statement M
 write-spec = tie.close (tie.spec (λ c κs. search needs) (λ c κs. search needs) (λ c. search needs) (λ c κs. search needs) (λ c. search needs) returns)

@@ -10,7 +10,8 @@ returns : tie.Need-returns
 returns c =
     let k = c .before .before .before .before in
     let s = k .before .before .before .before .span-of in
-    step-as _ _ _ _ _ (sym (ap Call.restore (part-is _ _ _ (s .result) (s .ensures)))) (record { did = k .restore .ensures .did; opening = k .restore .ensures })
+    step-as _ _ _ _ _ (sym (ap Call.restore (part-is _ _ _ (s .result) (s .ensures))))
+    (record { did = k .restore .ensures .did; opening = k .restore .ensures })
 
 pub restored-from-spec : {M : Type 1} → statement M
 restored-from-spec =

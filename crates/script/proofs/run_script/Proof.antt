@@ -32,15 +32,17 @@ add-i c =
 
 loop-again : tie.Need-loop-again Inv-loop μ-loop
 loop-again c =
-    let t = c .before .before .before .before .before .before .before .before .before .before in
-    let l = t .before .before .before .before .before .before .before .before .loop in (
+    let f = c .before .before .before in
+    let t = f .before .before .before .before .before .before .before in
+    let a = t .before .before .before .before .before .before in
+    let l = a .before .before .loop in (
       search needs,
       l .inv .1,
-      c .before .before .before .before .before .point .given ∙ l .inv .2,
-      c .before .before .before .found .given ∙ l .inv .3,
+      f .before .before .point .given ∙ l .inv .2,
+      f .found .given ∙ l .inv .3,
       c .before .bytes .given ∙ l .inv .4,
       ran-more _ _ _ (l .i) _ _ (words (l .ran .fit) (l .area) (l .log)) _ _ _ (given-same _ _ _ _ _ _ _ _ _ (l .inv .2) (l .inv .3) (l .inv .4))
-          (t .before .before .before .before .before .before .call-at .ensures) (l .inv .5) (t .step .ensures),
+          (a .call-at .ensures) (l .inv .5) (t .step .ensures),
     )
 
 same-length : tie.Need-same-length Inv-loop μ-loop

@@ -32,7 +32,8 @@ loop-again c =
     let x = l .loop .x in
     let i = a .k + 1 + l .loop .d in (
       l .loop .inv .0 ∙ sym (getD-set-other x i (a .k) _ nan (λ q. omega arith)),
-      looped-more (l .loop .inv .1) (omega arith) (ap (λ (w : Float). set x i (minus (word x i) (times (word (row (now (a .multipliers)) (a .k)) i) w))) (l .loop .inv .0)),
+      looped-more (l .loop .inv .1) (omega arith)
+          (ap (λ (w : Float). set x i (minus (word x i) (times (word (row (now (a .multipliers)) (a .k)) i) w))) (l .loop .inv .0)),
     )
 
 returns : tie.Need-returns Inv-loop μ-loop

@@ -8,17 +8,23 @@ use Rattle.solve.proofs.column.Tie as tie
 
 returns : tie.Need-returns
 returns c =
-    let w = c .before .before .before .before .before in
+    let i = c .before .before .before in
+    let w = i .before .before in
     let p = w .before .before in
-    let a = p .before .before .args in
-    (p .pivot .ensures .0, cleared (a .n) (a .scale) (a .k) (now (a .a)) (p .pivot .ensures .1) (w .swap-rows .ensures) (sym (c .before .before .before .pivots .ensures) ∙ c .before .before .if1 .taken) (c .eliminate .ensures))
+    let a = p .before .before .args in (
+      p .pivot .ensures .0,
+      cleared (a .n) (a .scale) (a .k) (now (a .a)) (p .pivot .ensures .1) (w .swap-rows .ensures) (sym (i .pivots .ensures) ∙ c .before .before .if1 .taken)
+          (c .eliminate .ensures),
+    )
 
 returns-2 : tie.Need-returns-2
 returns-2 c =
     let w = c .before .before .before in
     let p = w .before .before in
-    let a = p .before .before .args in
-    (p .pivot .ensures .0, stuck (a .n) (a .scale) (a .k) (now (a .a)) (p .pivot .ensures .1) (w .swap-rows .ensures) _ _ (sym (c .before .pivots .ensures) ∙ c .if1 .left))
+    let a = p .before .before .args in (
+      p .pivot .ensures .0,
+      stuck (a .n) (a .scale) (a .k) (now (a .a)) (p .pivot .ensures .1) (w .swap-rows .ensures) _ _ (sym (c .before .pivots .ensures) ∙ c .if1 .left),
+    )
 
 pub column-spec : {M : Type 1} → statement M
 column-spec =

@@ -14,8 +14,9 @@ returns c =
 
 returns-2 : tie.Need-returns-2
 returns-2 c =
-    let t = c .before .before .before .before .before in
-    factors (t .before .scale .ensures) (sym (t .regular .ensures) ∙ not-false (t .regular .result) (c .before .before .before .before .if1 .left)) (c .triangular .ensures)
+    let k = c .before .before .before .before in
+    let t = k .before in
+    factors (t .before .scale .ensures) (sym (t .regular .ensures) ∙ not-false (t .regular .result) (k .if1 .left)) (c .triangular .ensures)
 
 pub factor-spec : {M : Type 1} → statement M
 factor-spec =

@@ -27,7 +27,8 @@ loop-again c =
     let l = c .before .before .before .before .before .before in
     let a = l .before .args in
     let k = l .loop .k in
-    looped-more (l .loop .inv) (omega arith) (c .clear .ensures ∙ ap (clearedTo (a .n - (k + 1)) k (row (now (a .multipliers)) k)) (c .before .before .swap-words .ensures))
+    looped-more (l .loop .inv) (omega arith)
+    (c .clear .ensures ∙ ap (clearedTo (a .n - (k + 1)) k (row (now (a .multipliers)) k)) (c .before .before .swap-words .ensures))
 
 returns : tie.Need-returns Inv-loop μ-loop
 unfolding forwardTo

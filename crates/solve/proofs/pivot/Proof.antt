@@ -30,8 +30,11 @@ loop-again c =
     let l = c .before .before in
     let a = l .before .before .before .before .args in
     let i = a .k + 1 + l .loop .d in
-    let t = magnitudeLe (entry (now (a .a)) (l .loop .best .row) (a .k)) (entry (now (a .a)) i (a .k)) in
-    (rw (c .larger .ensures .0) (one-below t {i = i} (omega arith) (l .loop .inv .0)), c .larger .ensures .1, looped-more (l .loop .inv .2) (omega arith) (c .larger .ensures .0))
+    let t = magnitudeLe (entry (now (a .a)) (l .loop .best .row) (a .k)) (entry (now (a .a)) i (a .k)) in (
+      rw (c .larger .ensures .0) (one-below t {i = i} (omega arith) (l .loop .inv .0)),
+      c .larger .ensures .1,
+      looped-more (l .loop .inv .2) (omega arith) (c .larger .ensures .0),
+    )
 
 returns : tie.Need-returns Inv-loop μ-loop
 unfolding pivotOf

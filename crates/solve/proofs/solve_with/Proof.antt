@@ -21,7 +21,9 @@ forward-requires c κs =
 returns-3 : tie.Need-returns-3
 returns-3 c =
     let f = c .before .before .before in
-    solved _ _ _ _ _ _ (not-false _ (f .before .before .before .before .if1 .left)) (sym (f .before .before .all-finite .ensures) ∙ not-false _ (f .before .if2 .left)) (f .forward .ensures) (c .before .before .backward .ensures) (c .all-finite2 .ensures)
+    let t = f .before .before .before .before in
+    solved _ _ _ _ _ _ (not-false _ (t .if1 .left)) (sym (f .before .before .all-finite .ensures) ∙ not-false _ (f .before .if2 .left)) (f .forward .ensures)
+    (c .before .before .backward .ensures) (c .all-finite2 .ensures)
 
 pub solve-with-spec : {M : Type 1} → statement M
 solve-with-spec =

@@ -19,12 +19,14 @@ loop-holds c = columns-none (c .pre .1) (c .pre .2)
 returns : tie.Need-returns Inv-loop μ-loop
 returns c =
     let k = c .before .before in
-    columns-stopped _ _ _ (k .before .before .before .loop .inv) (omega arith) (rw (not-true (k .column .result .ok) (c .if1 .taken)) at (k .column .ensures .1))
+    columns-stopped _ _ _ (k .before .before .before .loop .inv) (omega arith)
+    (rw (not-true (k .column .result .ok) (c .if1 .taken)) at (k .column .ensures .1))
 
 loop-again : tie.Need-loop-again Inv-loop μ-loop
 loop-again c =
     let k = c .before .before .before in
-    columns-more (k .before .before .before .loop .inv) (omega arith) (omega arith) (k .column .ensures .0) (rw (not-false (k .column .result .ok) (c .before .if1 .left)) at (k .column .ensures .1))
+    columns-more (k .before .before .before .loop .inv) (omega arith) (omega arith) (k .column .ensures .0)
+    (rw (not-false (k .column .result .ok) (c .before .if1 .left)) at (k .column .ensures .1))
 
 returns-2 : tie.Need-returns-2 Inv-loop μ-loop
 returns-2 c = columns-done (c .before .loop .inv) (omega arith)

@@ -20,7 +20,9 @@ loop-holds : tie.Need-loop-holds Inv-loop μ-loop
 loop-holds c = (added-none _ (rw neg-zero-is at (c .before .before .fill .ensures)), refl)
 
 column-slot-requires : tie.Need-column-slot-requires Inv-loop μ-loop
-column-slot-requires c κs = let s = c .before .before .before .before .before .before .before .before .before .pre .0 in (s .few, omega (arith, s .most))
+column-slot-requires c κs =
+    let s = c .before .before .before .before .before .before .before .before .before .pre .0 in
+    (s .few, omega (arith, s .most))
 
 add-column-requires : tie.Need-add-column-requires Inv-loop μ-loop
 add-column-requires c κs =
@@ -36,7 +38,10 @@ loop-again c =
     (added-more (r .0) (omega arith) _ (k .column-slot .ensures) (c .before .before .add-column .ensures), c .before .area2 .given ∙ r .1)
 
 returns : tie.Need-returns Inv-loop μ-loop
-returns c = added-done (c .before .before .before .before .before .before .before .before .pre .1) (rw neg-zero-is at (c .before .before .before .before .fill .ensures)) (c .before .loop .inv .0) (omega arith)
+returns c =
+    let f = c .before .before .before .before in
+    let s = f .before .before .before .before in
+    added-done (s .pre .1) (rw neg-zero-is at (f .fill .ensures)) (c .before .loop .inv .0) (omega arith)
 
 pub corrections-spec : {M : Type 1} → statement M
 corrections-spec =

@@ -5,10 +5,14 @@ use Rattle.subspace.proofs.primal_minimize.Statement.{statement}
 use Rattle.subspace.proofs.primal_minimize.Tie as tie
 
 returns : tie.Need-returns
-returns c = minimum-free _ _ _ _ _ _ (c .before .before .before .before .before .any-free .ensures) (c .before .before .before .before .if1 .taken) (c .before .before .on-free .ensures)
+returns c =
+    let t = c .before .before .before .before in
+    minimum-free _ _ _ _ _ _ (t .before .any-free .ensures) (t .if1 .taken) (c .before .before .on-free .ensures)
 
 returns-2 : tie.Need-returns-2
-returns-2 c = minimum-fixed _ _ _ _ _ (c .before .before .before .before .before .any-free .ensures) (c .before .before .before .before .if1 .left) (c .before .before .copy .ensures)
+returns-2 c =
+    let t = c .before .before .before .before in
+    minimum-fixed _ _ _ _ _ (t .before .any-free .ensures) (t .if1 .left) (c .before .before .copy .ensures)
 
 pub primal-minimize-spec : {M : Type 1} → statement M
 primal-minimize-spec =

@@ -17,7 +17,8 @@ returns-2 c =
     let e = c .before .before in
     let s = e .before .before .before in
     let g = s .args in
-    push-more (g .h) (wordsAt (now (g .area)) (g .h .n) (g .k)) (now (g .p)) (g .count) (now (g .a)) _ _ (e .before .is-free .ensures) (e .if1 .left) (c .before .gather .ensures) (s .pre .2)
+    push-more (g .h) (wordsAt (now (g .area)) (g .h .n) (g .k)) (now (g .p)) (g .count) (now (g .a)) _ _ (e .before .is-free .ensures) (e .if1 .left)
+    (c .before .gather .ensures) (s .pre .2)
     (c .if2 .taken)
 
 returns-3 : tie.Need-returns-3
@@ -26,7 +27,8 @@ returns-3 c =
     let e = d .before .before in
     let s = e .before .before .before in
     let g = s .args in
-    push-four (g .h) (wordsAt (now (g .area)) (g .h .n) (g .k)) (now (g .p)) (g .count) (now (g .a)) _ _ _ (e .before .is-free .ensures) (e .if1 .left) (d .before .gather .ensures) (s .pre .2)
+    push-four (g .h) (wordsAt (now (g .area)) (g .h .n) (g .k)) (now (g .p)) (g .count) (now (g .a)) _ _ _ (e .before .is-free .ensures) (e .if1 .left)
+    (d .before .gather .ensures) (s .pre .2)
     (d .if2 .left) (c .add-fours .ensures)
 
 pub push-spec : {M : Type 1} → statement M

@@ -6,15 +6,22 @@ use Rattle.subspace.proofs.residual.Statement.{statement}
 use Rattle.subspace.proofs.residual.Tie as tie
 
 product-requires : tie.Need-product-requires
-product-requires c κs = (search needs, differenced _ _ (c .before .before .before .difference .ensures) (c .before .before .before .before .before .before .pre .1), omega arith, omega arith)
+product-requires c κs =
+    let d = c .before .before .before in
+    (search needs, differenced _ _ (d .difference .ensures) (d .before .before .before .pre .1), omega arith, omega arith)
 
 returns : tie.Need-returns
-returns c = no-residual _ _ _ _ _ _ (c .before .before .before .before .before .before .before .difference .ensures) (c .before .before .before .product .ensures) (c .if1 .taken)
+returns c =
+    let p = c .before .before .before in
+    let d = p .before .before .before .before in
+    no-residual _ _ _ _ _ _ (d .difference .ensures) (p .product .ensures) (c .if1 .taken)
 
 returns-2 : tie.Need-returns-2
 returns-2 c =
-    let p = c .before .before .before .before .before .before .before in
-    a-residual _ _ _ _ _ _ _ (p .before .before .before .before .difference .ensures) (p .product .ensures) (c .before .before .before .before .if1 .left) (c .before .before .add-gradient .ensures)
+    let t = c .before .before .before .before in
+    let p = t .before .before .before in
+    let d = p .before .before .before .before in
+    a-residual _ _ _ _ _ _ _ (d .difference .ensures) (p .product .ensures) (t .if1 .left) (c .before .before .add-gradient .ensures)
 
 pub residual-spec : {M : Type 1} → statement M
 residual-spec =

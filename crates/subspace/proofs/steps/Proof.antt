@@ -14,9 +14,12 @@ returns-2 c =
 
 returns-3 : tie.Need-returns-3
 returns-3 c =
-    let t = c .before .before .before .before .before .before .before .before .before .before .before in
+    let o = c .before .before .before .before .before .before in
+    let k = o .before .before .before in
+    let t = k .before .before in
     let w = t .weights .result in
-    with-steps _ _ _ _ _ (w .ok) (w .x) (by-weights _ _ _ _ (t .before .before .if1 .left) (t .weights .ensures)) (c .before .before .before .before .before .before .before .before .before .if2 .left) (c .before .before .before .before .before .before .corrections .ensures) (c .before .before .weighted-steps .ensures)
+    with-steps _ _ _ _ _ (w .ok) (w .x) (by-weights _ _ _ _ (t .before .before .if1 .left) (t .weights .ensures)) (k .if2 .left) (o .corrections .ensures)
+    (c .before .before .weighted-steps .ensures)
 
 pub steps-spec : {M : Type 1} → statement M
 steps-spec =

@@ -9,8 +9,10 @@ use Rattle.text.proofs.put_count.Tie as tie
 returns : tie.Need-returns
 unfolding countLine
 returns c =
-    let k = c .before .before .before .before .before .before .before .before .before .before .before in
-    puts-line (omega (arith, k .before .before .before .before .pre .0)) (k .put-bytes .ensures) (c .before .before .before .before .before .before .before .put-decimal .ensures) (c .before .before .put-bytes2 .ensures)
+    let p = c .before .before .before .before .before .before .before in
+    let k = p .before .before .before .before in
+    let s = k .before .before .before .before in
+    puts-line (omega (arith, s .pre .0)) (k .put-bytes .ensures) (p .put-decimal .ensures) (c .before .before .put-bytes2 .ensures)
 
 pub put-count-spec : {M : Type 1} → statement M
 put-count-spec =

@@ -8,7 +8,11 @@ use Rattle.text.proofs.put_decimal.Tie as tie
 put-bytes-requires : tie.Need-put-bytes-requires
 put-bytes-requires c κs =
     let k = c .before .before .before in
-    omega (arith, k .decimal .ensures .0 .1, few-digits 10 1 _ _ 20 (omega arith) (omega (arith, k .before .before .before .fits .n)) (omega arith) (k .decimal .ensures .1 .0))
+    omega (
+      arith,
+      k .decimal .ensures .0 .1,
+      few-digits 10 1 _ _ 20 (omega arith) (omega (arith, k .before .before .before .fits .n)) (omega arith) (k .decimal .ensures .1 .0),
+    )
 
 returns : tie.Need-returns
 returns c =

@@ -12,7 +12,9 @@ unfolding floatLine
 returns c =
     let w = c .before .before .before .before .before .before .before in
     let k = w .before .before .before .before .before in
-    puts-line {q = 16} (omega (arith, k .before .before .before .before .pre .0)) (k .put-bytes .ensures) (puts-as {q = 16} (ap hexadecimal (w .before .float-to-word .ensures)) (omega arith) (w .put-hexadecimal .ensures)) (c .before .before .put-bytes2 .ensures)
+    let s = k .before .before .before .before in
+    puts-line {q = 16} (omega (arith, s .pre .0)) (k .put-bytes .ensures)
+    (puts-as {q = 16} (ap hexadecimal (w .before .float-to-word .ensures)) (omega arith) (w .put-hexadecimal .ensures)) (c .before .before .put-bytes2 .ensures)
 
 pub put-float-spec : {M : Type 1} → statement M
 put-float-spec =

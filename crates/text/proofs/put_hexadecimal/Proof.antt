@@ -8,7 +8,11 @@ use Rattle.text.proofs.put_hexadecimal.Tie as tie
 put-bytes-requires : tie.Need-put-bytes-requires
 put-bytes-requires c κs =
     let k = c .before .before .before in
-    omega (arith, k .hex .ensures .0 .1, few-digits 16 16 _ _ 16 (omega arith) (omega (arith, k .before .before .before .fits .w)) (omega arith) (k .hex .ensures .1 .0))
+    omega (
+      arith,
+      k .hex .ensures .0 .1,
+      few-digits 16 16 _ _ 16 (omega arith) (omega (arith, k .before .before .before .fits .w)) (omega arith) (k .hex .ensures .1 .0),
+    )
 
 returns : tie.Need-returns
 returns c =

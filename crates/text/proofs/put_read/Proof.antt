@@ -21,7 +21,8 @@ put-told-requires c κs =
 returns : tie.Need-returns
 returns c =
     let m = c .before .before .before .before .before .before in
-    puts-as (ap textOf (refused-printed _ _ _ _ _ (m .before .before .before .before .before .before .read .ensures) (m .read2 .given .1))) (omega arith) (c .before .before .put-count .ensures)
+    let r = m .before .before .before .before .before .before in
+    puts-as (ap textOf (refused-printed _ _ _ _ _ (r .read .ensures) (m .read2 .given .1))) (omega arith) (c .before .before .put-count .ensures)
 
 returns-2 : tie.Need-returns-2
 returns-2 c =
@@ -29,7 +30,8 @@ returns-2 c =
     let m = t .before .before .before .before in
     let r = m .before .before .before .before .before .before in
     let s = r .before .before .before .before .before .before .before .before in
-    puts-as (ap textOf (fit-printed _ _ _ _ _ (t .report .result) _ _ (r .read .ensures) (m .read3 .given .1) (s .pre .2) (t .report .ensures) .1)) (omega arith) (c .before .before .put-told .ensures)
+    puts-as (ap textOf (fit-printed _ _ _ _ _ (t .report .result) _ _ (r .read .ensures) (m .read3 .given .1) (s .pre .2) (t .report .ensures) .1))
+    (omega arith) (c .before .before .put-told .ensures)
 
 pub put-read-spec : {M : Type 1} → statement M
 put-read-spec =
