@@ -32,10 +32,12 @@ use Rattle.problem.specs.declared.Refusal.{Refusal}
 use Rattle.opening.specs.Opened.{setupAt}
 use Rattle.record.specs.Records.{entrySize}
 use Rattle.replay.specs.Replays.{withLog}
-use Rattle.driver.specs.Replies.{suppliedIn, advanced, Marks, mostWords}
+use Rattle.fit.specs.State.{mostWords}
+use Rattle.held.specs.Test.{Marks}
+use Rattle.driver.specs.Replies.{suppliedIn, advanced}
 use Rattle.driver.specs.declared.Reply.{Reply}
 use Rattle.driver.specs.declared.Reply.the-variants as R
-use Rattle.driver.proofs.Laws.{marked-machine}
+use Rattle.held.proofs.Test.{marked-machine}
 use Rattle.driver.proofs.Steps.{DueSaid, due-then}
 use Rattle.replay.specs.Taken.{replied}
 use Rattle.replay.proofs.Answers.{terms-stay}

@@ -19,7 +19,7 @@ use Rattle.problem.specs.Setups.{setupIn, placesIn}
 use Rattle.problem.specs.declared.Options.{Options}
 use Rattle.fit.specs.declared.Fit.{Fit}
 use Rattle.opening.specs.Opened.{Room, Fits, Opened}
-use Rattle.driver.specs.Replies.{Marks}
+use Rattle.held.specs.Test.{Marks}
 use Rattle.held.proofs.Laws.{Reached, reached-marked, reached-held, opened-reached}
 use Rattle.held.specs.Words.{words, Held}
 

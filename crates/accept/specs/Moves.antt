@@ -18,7 +18,7 @@ use Rattle.search.specs.State.{Settled}
 use Rattle.fit.specs.State.{machineOf}
 use Rattle.fit.specs.declared.Fit.{Fit}
 use Rattle.opening.specs.Opened.{setupAt}
-use Rattle.driver.specs.Replies.{marked}
+use Rattle.held.specs.Test.{marked}
 use Rattle.driver.specs.declared.Reply.{Reply}
 use Rattle.driver.specs.declared.Reply.the-variants as R
 use Rattle.replay.specs.Taken.{replied}

@@ -15,7 +15,7 @@ ghost use Rattle.definition.specs.Record.{checkArea};
 ghost use Rattle.area.specs.Area.{view, firstPair};
 ghost use Rattle.problem.specs.Setups.{setupIn, placesIn, checkOf};
 ghost use Rattle.fit.specs.State.{machineOf};
-ghost use Rattle.driver.specs.Replies.{isReady};
+ghost use Rattle.held.specs.Test.{isReady};
 ghost use Rattle.accept.specs.Moves.{entryKind, written, stored, checkSaid, Advances};
 ghost use Rattle.replay.specs.Taken.{replied};
 ghost use Rattle.held.specs.Words.{words, Held};
@@ -58,7 +58,7 @@ pub fn opened(o: Options, area: &mut [f64], x0: &[f64], lower: &[f64], upper: &[
 {
     let f = opening::begin(o, area, x0, lower, upper);
     let h = f.shape;
-    driver::mark(area, h);
+    held::mark(area, h);
     f
 }
 
@@ -171,7 +171,7 @@ fn advanced(t: Fit, area: &mut [f64], r: Reply, gradient: &[u64]) -> Fit
     put_gradient(area, n, r, gradient);
     let f = driver::advance(t, area, r);
     let h = f.shape;
-    driver::mark(area, h);
+    held::mark(area, h);
     replay::counted(f, record::entry_length(kind_of(r), n))
 }
 

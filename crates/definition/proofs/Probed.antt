@@ -1,21 +1,12 @@
 -- The probe that is asked, whether or not the setup is accepted: it is of a coordinate that there is. Assumes nothing.
-use Prim.Native.Nat.{ℕ, _<_}
 use mathlib.Core.Path.{subst}
 use mathlib.Core.List.{List, [], _∷_}
 use Rattle.definition.specs.Problem.{Setup}
-use Rattle.definition.specs.Machine.{Reply, Phase, Machine}
+use Rattle.definition.specs.Machine.{Reply, Phase, Machine, InRange}
 use Rattle.definition.specs.Driver.{move, begin, run}
 use Rattle.definition.specs.Replies.{Due}
 use Rattle.definition.proofs.Accepted.{due-taken}
 use Rattle.definition.proofs.Leads.{Leads, Known, answer-leads}
-
--- a probe is of one of n coordinates
-abbrev pub InRange : Phase → ℕ → Type 0
-InRange (Phase.value w) n = Unit {0}
-InRange (Phase.gradient w) n = Unit {0}
-InRange (Phase.probe w i side) n = i < n
-InRange Phase.notice n = Unit {0}
-InRange (Phase.ended t) n = Unit {0}
 
 abbrev Any : Machine → Type 0
 Any m = Unit {0}

@@ -1,5 +1,5 @@
 -- The machine of a fit: its fields, what it asks, which replies are due, and its report.
-use Prim.Native.Nat.{ℕ}
+use Prim.Native.Nat.{ℕ, _<_}
 use mathlib.Core.Bool.{Bool, true, false, not, cond, _&&_, _||_}
 use mathlib.Core.List.{List, [], _∷_}
 use mathlib.Core.Option.{Option, none, some}
@@ -150,6 +150,14 @@ abbrev pub ending : Termination → Machine → Machine
 ending t m = inPhase (Phase.ended t) m
 
 -- ---- what is asked and what is due
+
+-- a probe is of one of n coordinates
+abbrev pub InRange : Phase → ℕ → Type 0
+InRange (Phase.value w) n = Unit {0}
+InRange (Phase.gradient w) n = Unit {0}
+InRange (Phase.probe w i side) n = i < n
+InRange Phase.notice n = Unit {0}
+InRange (Phase.ended t) n = Unit {0}
 
 -- 0: nothing
 abbrev pub kindOf : Phase → ℕ

@@ -18,7 +18,7 @@ use Rattle.area.proofs.Laws.{word-view, saved-refl, saved-upd}
 use Rattle.problem.specs.Setups.{floatOf, schemeOf}
 use Rattle.counters.specs.declared.Termination.the-variants.{Nonfinite}
 use Rattle.gradient.specs.Probing.{probesFor}
-use Rattle.gradient.proofs.Laws.{probes-at}
+use Rattle.gradient.proofs.Laws.{probes-read}
 use Rattle.fit.specs.declared.Fit.{Fit}
 use Rattle.fit.specs.declared.Place.{Place}
 use Rattle.fit.specs.declared.Phase.{Phase}
@@ -60,13 +60,11 @@ unfolding probeFrom
 all-probed n w j m l = let q : n - j ≡ 0 = omega arith in rw q
 
 -- what is probed, read off the area
-pub probes-read : (t : Fit) (a : List Float) (i : ℕ) → i < t .shape .n
+pub probes-of : (t : Fit) (a : List Float) (i : ℕ) → i < t .shape .n
     → probesFor (floatOf (t .options .eps)) (schemeOf (t .options .scheme))
     (word a (Trial * t .shape .n + i)) (word a (Lower * t .shape .n + i)) (word a (Upper * t .shape .n + i))
     ≡ probesAt (machineOf t a .terms) (view a (t .shape .n) Trial) i
-probes-read t a i h =
-    let n = t .shape .n in
-    rw (word-view a n Trial i h, word-view a n Lower i h, word-view a n Upper i h) (probes-at (machineOf t a .terms) i (view a n Trial))
+probes-of t a i h = probes-read (machineOf t a .terms) a (t .shape .n) i h refl refl
 
 -- ---- component j of the trial's gradient is stored
 
@@ -195,7 +193,7 @@ module _ (q : Probing) (t : Fit) (a : List Float) where
       (word a (Trial * t .shape .n + q .i)) (word a (Lower * t .shape .n + q .i)) (word a (Upper * t .shape .n + q .i))
       → LeadsTo (λ w. probed w (q .i) x (sideOf (q .side)) v) q t a z b → LeadsTo (λ w. onProbe w (q .i) (sideOf (q .side)) v) q t a z b
   finite-probed v x z b l f e h =
-      leads-as h (λ w p. finite-branch (placeOf w) (q .i) (sideOf (q .side)) v (machineOf (numbered p q t) a) f (e ∙ probes-read t a (q .i) l))
+      leads-as h (λ w p. finite-branch (placeOf w) (q .i) (sideOf (q .side)) v (machineOf (numbered p q t) a) f (e ∙ probes-of t a (q .i) l))
 
   -- one that is not
   pub nonfinite-probed : (v : Float) → finite v ≡ false → LeadsTo (λ w. onProbe w (q .i) (sideOf (q .side)) v) q t a (Ended q Nonfinite) a

@@ -22,7 +22,7 @@ use Rattle.fit.specs.declared.Phase.the-variants as P
 use Rattle.fit.specs.declared.Side.{Side}
 use Rattle.fit.specs.State.{placeOf, sideOf, machine, machineOf, Steps}
 use Rattle.fit.proofs.Laws.{still, steps-as, steps-from, charge-asks, charge-ends}
-use Rattle.judge.specs.Ready.{Ready}
+use Rattle.fit.specs.Ready.{Ready}
 use Rattle.differences.specs.declared.Probing.{Probing}
 use Rattle.differences.specs.declared.Next.{Next}
 use Rattle.differences.specs.declared.Next.the-variants.{Probe, Ended}

@@ -10,7 +10,7 @@ ghost use Rattle.definition.specs.Driver.{askValue, probeFrom, probedTo as prob
 ghost use Rattle.gradient.specs.Probing.{probesIn};
 ghost use Rattle.fit.specs.State.{placeOf, sideOf, Steps};
 ghost use Rattle.compact.specs.State.{Sound};
-ghost use Rattle.judge.specs.Ready.{Ready};
+ghost use Rattle.fit.specs.Ready.{Ready};
 ghost use Rattle.differences.specs.Probing.{numbered, probing, Settles, reached, LeadsTo, unprobed, firstSide};
 use counters::Charge;
 use counters::Counters;

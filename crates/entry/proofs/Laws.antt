@@ -29,7 +29,7 @@ use Rattle.problem.specs.declared.Refusal.{Refusal}
 use Rattle.fit.specs.declared.Fit.{Fit}
 use Rattle.question.specs.Reports.{written, reportOf}
 use Rattle.question.specs.declared.Outcome.{Outcome}
-use Rattle.driver.proofs.Laws.{ready-facts, held-ready}
+use Rattle.held.proofs.Test.{ready-facts, held-ready}
 use Rattle.lbfgsb.specs.Words.{words, Held}
 use Rattle.lbfgsb.specs.Bridge.{asked, told}
 use Rattle.lbfgsb.specs.declared.Answer.{Answer}

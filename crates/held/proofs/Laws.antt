@@ -22,8 +22,8 @@ use Rattle.problem.specs.declared.Options.{Options}
 use Rattle.fit.specs.State.{machineOf}
 use Rattle.fit.specs.declared.Fit.{Fit}
 use Rattle.opening.specs.Opened.{setupAt, Opened}
-use Rattle.driver.specs.Replies.{marked, isReady, isHeld, Marks}
-use Rattle.driver.proofs.Laws.{ready-facts, held-ready, is-held, marked-machine, run-ready}
+use Rattle.held.specs.Test.{marked, isReady, isHeld, Marks}
+use Rattle.held.proofs.Test.{ready-facts, held-ready, is-held, marked-machine, run-ready}
 use Rattle.driver.specs.declared.Reply.{Reply}
 use Rattle.held.specs.Words.{words, Held}
 

@@ -15,7 +15,7 @@ use Rattle.search.specs.State.{Settled}
 use Rattle.fit.specs.State.{machineOf}
 use Rattle.fit.specs.declared.Fit.{Fit}
 use Rattle.opening.specs.Opened.{setupAt}
-use Rattle.driver.specs.Replies.{isHeld}
+use Rattle.held.specs.Test.{isHeld}
 
 pub record Words : Type 0 where
   pub state : Fit

@@ -1,9 +1,12 @@
-// The state that holds no fit. What state, area and log hold between two calls stands in specs/, its laws in proofs/.
+// What state, area and log hold between two calls: the test for a held fit, the mark, and the state that holds none.
 ghost use mathlib.Core.Path.{_≡_};
-ghost use mathlib.Core.Bool.{false};
+ghost use mathlib.Core.Bool.{true, false};
+ghost use Prim.Native.Nat.{_≤_};
 ghost use mathlib.Core.List.{List};
 ghost use lib.Ieee.{Float};
-ghost use Rattle.driver.specs.Replies.{isHeld};
+ghost use lib.ListN.{length};
+ghost use Rattle.definition.specs.Problem.{mostCoordinates, mostPairs};
+ghost use Rattle.held.specs.Test.{markAt, shapeHeld, countsHeld, logHeld, phaseHeld, isReady, isHeld, Marks};
 use compact::Shape;
 use counters::Counters;
 use fit::Extra;
@@ -15,8 +18,120 @@ use problem::MaybeFloat;
 use problem::Options;
 use problem::Scheme;
 use search::Search;
+use search::Step;
 use search::Trials;
 
+// ---- the held test
+
+// The shape is in range, and the area long enough for it.
+fn shape_held(shape: Shape, size: usize) -> bool
+    ensures { λ r. ⌜ r ≡ shapeHeld shape size ⌝ }
+{
+    if shape.n == 0 {
+        return false;
+    }
+    if problem::MOST_COORDINATES < shape.n {
+        return false;
+    }
+    if shape.m == 0 {
+        return false;
+    }
+    if problem::MOST_PAIRS < shape.m {
+        return false;
+    }
+    if shape.m < shape.pairs {
+        return false;
+    }
+    if shape.m <= shape.oldest {
+        return false;
+    }
+    area::words(shape.n, shape.m) <= size
+}
+
+fn counts_held(counters: Counters) -> bool
+    ensures { λ r. ⌜ r ≡ countsHeld counters ⌝ }
+{
+    if counters::MOST_COUNTED <= counters.nit {
+        return false;
+    }
+    counters.njev < counters::MOST_COUNTED
+}
+
+fn log_held(entries: usize, words: usize) -> bool
+    ensures { λ r. ⌜ r ≡ logHeld entries words ⌝ }
+{
+    if fit::MOST_WORDS <= entries {
+        return false;
+    }
+    words < fit::MOST_WORDS
+}
+
+// A probe is of a coordinate that there is.
+fn phase_held(phase: Phase, n: usize) -> bool
+    ensures { λ r. ⌜ r ≡ phaseHeld phase n ⌝ }
+{
+    match phase {
+        Phase::Value(_) => true,
+        Phase::Gradient(_) => true,
+        Phase::Probe(_, i, _) => i < n,
+        Phase::Notice => true,
+        Phase::Ended(_) => true,
+    }
+}
+
+// Whether a state can be advanced with an area of `size` words, for any words at all.
+pub fn is_ready(fit: Fit, size: usize) -> bool
+    ensures { λ r. ⌜ r ≡ isReady fit size ⌝ }
+{
+    let shape = fit.shape;
+    if !shape_held(shape, size) {
+        return false;
+    }
+    let options = fit.options;
+    if problem::places(options) != shape.m {
+        return false;
+    }
+    let counters = fit.counters;
+    if !counts_held(counters) {
+        return false;
+    }
+    if !log_held(fit.extra.entries, fit.extra.words) {
+        return false;
+    }
+    let phase = fit.phase;
+    phase_held(phase, shape.n)
+}
+
+// Where the mark stands: behind the vectors.
+fn mark_at(shape: Shape) -> usize
+    requires { ⌜ (shape .n ≤ mostCoordinates) × (shape .m ≤ mostPairs) ⌝ }
+    ensures { λ r. ⌜ r ≡ markAt shape ⌝ }
+{
+    (area::FIRST_PAIR + 4 * shape.m) * shape.n
+}
+
+// Whether state and area hold a fit, for any words at all: the mark behind the vectors is 1, which no area of zeros has.
+pub fn is_held(fit: Fit, area: &[f64]) -> bool
+    ensures { λ r. ⌜ r ≡ isHeld fit (now (area .entry)) ⌝ }
+{
+    if !is_ready(fit, area.len()) {
+        return false;
+    }
+    let shape = fit.shape;
+    let at = mark_at(shape);
+    area[at] == 1.0
+}
+
+// Marks the area as holding a fit.
+pub fn mark(area: &mut [f64], shape: Shape)
+    requires { ⌜ shapeHeld shape (length (now area)) ≡ true ⌝ }
+    ensures { λ _. ⌜ Marks shape (now (area .entry)) (now (area .exit)) ⌝ }
+{
+    let at = mark_at(shape);
+    area[at] = 1.0;
+}
+
+// ---- the state that holds no fit
 fn no_options() -> Options {
     Options {
         bounded: false,
@@ -41,12 +156,21 @@ fn no_limits() -> Limits {
 }
 
 fn no_search() -> Search {
-    Search {
+    let step = Step {
         alpha: 0.0,
         low: 0.0,
         high: 0.0,
         slope0: 0.0,
         amax: 0.0,
+    };
+    let trials = Trials {
+        count: 0,
+        face: false,
+        bracketed: false,
+    };
+    Search {
+        step: step,
+        trials: trials,
     }
 }
 
@@ -65,11 +189,6 @@ pub fn empty() -> Fit
         nfev: 0,
         njev: 0,
     };
-    let trials = Trials {
-        count: 0,
-        face: false,
-        bracketed: false,
-    };
     let extra = Extra {
         entries: 0,
         words: 0,
@@ -81,11 +200,10 @@ pub fn empty() -> Fit
         counters: counters,
         phase: Phase::Notice,
         search: no_search(),
-        trials: trials,
         value: 0.0,
-        trial: 0.0,
-        right: 0.0,
-        before: 0.0,
+        trial_value: 0.0,
+        right_value: 0.0,
+        value_before: 0.0,
         theta: 0.0,
         extra: extra,
     }

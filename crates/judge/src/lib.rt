@@ -8,7 +8,7 @@ ghost use Rattle.definition.specs.Driver.{onValue, learn as learnOf, move as mo
 ghost use Rattle.counters.specs.Counts.{mostCounted};
 ghost use Rattle.compact.specs.State.{Sound};
 ghost use Rattle.fit.specs.State.{placeOf, Turns, Steps};
-ghost use Rattle.judge.specs.Ready.{Ready};
+ghost use Rattle.fit.specs.Ready.{Ready};
 use counters::Termination;
 use fit::Fit;
 use fit::Phase;

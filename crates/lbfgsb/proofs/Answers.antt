@@ -16,7 +16,7 @@ use Rattle.definition.specs.Record.{checkArea, plainRefusal}
 use Rattle.definition.specs.History as H
 use Rattle.definition.specs.History.{Call, History, historyStep, historyAnswer, checkReply}
 use Rattle.fit.specs.declared.Fit.{Fit}
-use Rattle.driver.specs.Replies.{isHeld}
+use Rattle.held.specs.Test.{isHeld}
 use Rattle.lbfgsb.specs.Words.{Words, words, lengths, Held, Holds}
 use Rattle.lbfgsb.specs.Did.{Did, Refuses, Started, Moved, Replied}
 use Rattle.lbfgsb.specs.Table.{checkAt, replyAnswer}

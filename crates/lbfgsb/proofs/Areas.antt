@@ -26,7 +26,7 @@ use Rattle.area.proofs.Laws.{room, length-view, word-view}
 use Rattle.compact.specs.State.{pairAt, Sound}
 use Rattle.compact.specs.declared.Shape.{Shape}
 use Rattle.compact.proofs.Laws.{by-wrap}
-use Rattle.driver.specs.Replies.{markAt}
+use Rattle.held.specs.Test.{markAt}
 use Rattle.lbfgsb.specs.Words.{Words}
 use Rattle.lbfgsb.specs.Chain.{Unused, ScratchVector, Scratch, Agree}
 

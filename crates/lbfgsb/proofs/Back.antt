@@ -21,8 +21,8 @@ use Rattle.definition.specs.History.{Call, History, callRow, leftBy, refusedBy}
 use Rattle.problem.specs.Setups.{refusalOf}
 use Rattle.problem.specs.declared.Refusal as Q
 use Rattle.fit.specs.declared.Fit.{Fit}
-use Rattle.driver.specs.Replies.{isHeld}
-use Rattle.driver.proofs.Laws.{is-held}
+use Rattle.held.specs.Test.{isHeld}
+use Rattle.held.proofs.Test.{is-held}
 use Rattle.replay.specs.Replays.{ReplayedTo}
 use Rattle.replay.specs.declared.Replayed.{Replayed}
 use Rattle.replay.specs.declared.Replayed.the-variants as R

@@ -36,7 +36,7 @@ use Rattle.fit.specs.declared.Side.{Side}
 use Rattle.fit.specs.declared.Side.the-variants.{Right, Left}
 use Rattle.fit.specs.declared.Phase.{Phase}
 use Rattle.fit.specs.declared.Phase.the-variants.{Value, Gradient, Probe, Notice, Ended}
-use Rattle.driver.proofs.Laws.{held-ready, held-marked, ready-facts}
+use Rattle.held.proofs.Test.{held-ready, held-marked, ready-facts}
 use Rattle.lbfgsb.specs.Words.{Words, lengths, setupOf, machineIn, Stands}
 use Rattle.lbfgsb.specs.Chain.{Agree}
 use Rattle.lbfgsb.proofs.Areas.{InUse, each-word}

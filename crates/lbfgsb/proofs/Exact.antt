@@ -20,7 +20,7 @@ use Rattle.definition.specs.Book.{Book, logOf}
 use Rattle.definition.specs.History.{Call, Answer, refusalsOf, refusedBy, restoredAnswer}
 use Rattle.definition.proofs.Accepted.{both-passed, test-failed}
 use Rattle.definition.proofs.Numbered.{AnswerNumbered}
-use Rattle.driver.specs.Replies.{isHeld}
+use Rattle.held.specs.Test.{isHeld}
 use Rattle.lbfgsb.specs.Words.{Words, lengths, machineIn, logIn}
 use Rattle.lbfgsb.specs.Table.{checkAt, shortLog, checkBack, repliesLeft, stayAnswer, answerAt, isNone, zeroed}
 use Rattle.lbfgsb.specs.Did.{Started, Restored, Restores, Loaded, Moved, Replied, Shortened, TakenBack, TakesReplies, TakesBack}

@@ -14,7 +14,7 @@ use Rattle.definition.specs.Book.{logOf}
 use Rattle.definition.specs.Record.{Lengths, plainRefusal}
 use Rattle.definition.specs.Sound.{refusedAtEntry}
 use Rattle.definition.specs.History.{Call, Answer, History, refusedBy, historyAnswer, historyAfter}
-use Rattle.driver.specs.Replies.{isHeld}
+use Rattle.held.specs.Test.{isHeld}
 use Rattle.lbfgsb.specs.Words.{Words, lengths, Holds}
 use Rattle.lbfgsb.specs.Table.{checkBack, repliesLeft, stayAnswer, answerAt, isNone, entryRefused, zeroed}
 use Rattle.lbfgsb.specs.Chain.{Chain, Allowed, Exact, Leaves}

@@ -24,8 +24,8 @@ use Rattle.definition.specs.History.{Call, Answer, History, checkQuestion, left
 use Rattle.definition.specs.History.{restoredAnswer, historyStep, historyAnswer, historyAfter, historyAnswers}
 use Rattle.definition.proofs.Tests.{first-true}
 use Rattle.definition.proofs.Histories.{isRead, read-stays, history-sound}
-use Rattle.driver.specs.Replies.{isHeld, markAt, marked, isReady}
-use Rattle.driver.proofs.Laws.{and-no}
+use Rattle.held.specs.Test.{isHeld, markAt, marked, isReady}
+use Rattle.held.proofs.Test.{and-no}
 use Rattle.lbfgsb.specs.Words.{Words, lengths, Held, Holds}
 use Rattle.lbfgsb.specs.Did.{Did, Opening, Stepped, Started, Restored, Restores}
 use Rattle.lbfgsb.specs.Chain.{Chain, Blank, Opens, Allowed, FitIn, HasFit, Keeps, KeepsNone, After, Demand}

@@ -24,7 +24,7 @@ use Rattle.fit.specs.declared.Fit.{Fit}
 use Rattle.question.specs.Reports.{pointAsked, written, reportOf}
 use Rattle.question.specs.declared.Outcome.{Outcome}
 use Rattle.record.specs.Records.{setupSize}
-use Rattle.driver.specs.Replies.{isHeld}
+use Rattle.held.specs.Test.{isHeld}
 use Rattle.lbfgsb.specs.Words.{Words, words}
 use Rattle.lbfgsb.specs.Bridge.{firstOf}
 use Rattle.lbfgsb.specs.Did.{Written, taken, Read, Counted}

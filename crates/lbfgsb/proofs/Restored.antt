@@ -18,7 +18,7 @@ use Rattle.problem.specs.Setups.{refusalOf}
 use Rattle.problem.specs.declared.Options.{Options}
 use Rattle.problem.specs.declared.Refusal as Q
 use Rattle.fit.specs.declared.Fit.{Fit}
-use Rattle.driver.proofs.Laws.{zeroed-unheld}
+use Rattle.held.proofs.Test.{zeroed-unheld}
 use Rattle.record.specs.declared.Frame.{Frame}
 use Rattle.record.specs.declared.Parsed.{Parsed}
 use Rattle.record.specs.declared.Parsed.the-variants as D

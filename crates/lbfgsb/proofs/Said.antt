@@ -14,7 +14,7 @@ use Rattle.definition.specs.History as H
 use Rattle.definition.specs.History.{Call, History, outputShort, checkQuestion, refusedBy, historyAnswer}
 use Rattle.definition.proofs.Counts.{terms-stay}
 use Rattle.definition.proofs.Lengths.{record-bytes}
-use Rattle.driver.specs.Replies.{isHeld}
+use Rattle.held.specs.Test.{isHeld}
 use Rattle.lbfgsb.specs.Words.{Words, lengths, machineIn, logIn, Held, Holds}
 use Rattle.lbfgsb.specs.Table.{questionOf, questionAnswer, reportAnswer, repliesAnswer, entryIn, entryKept, shortLog, entryAnswer, recordIn, saveAnswer}
 use Rattle.lookup.proofs.Entries.{entry-read}

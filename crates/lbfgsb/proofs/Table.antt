@@ -16,7 +16,7 @@ use Rattle.definition.specs.Record.{plainRefusal, readRecord}
 use Rattle.definition.specs.History.{Call, Answer, refusalsOf, among, outputShort, refusedBy, restoredAnswer}
 use Rattle.definition.proofs.Tests.{by-test}
 use Rattle.definition.proofs.Numbered.{Numbered, AnswerNumbered, answered, tested, both, opening, due, short, record-numbered, restores}
-use Rattle.driver.specs.Replies.{isHeld}
+use Rattle.held.specs.Test.{isHeld}
 use Rattle.lbfgsb.specs.Words.{Words, lengths, machineIn}
 use Rattle.lbfgsb.specs.Table.{byHeld, shortLog, checkBack, repliesLeft, stayAnswer, questionOf, entryKept, recordIn, answerAt}
 

@@ -15,8 +15,8 @@ use Rattle.compact.specs.State.{pairAt, pairsOf}
 use Rattle.compact.specs.declared.Shape.{Shape}
 use Rattle.fit.specs.declared.Fit.{Fit}
 use Rattle.fit.proofs.Laws.{same}
-use Rattle.driver.specs.Replies.{isReady, marked}
-use Rattle.driver.proofs.Laws.{ready-facts, held-ready, is-held}
+use Rattle.held.specs.Test.{isReady, marked}
+use Rattle.held.proofs.Test.{ready-facts, held-ready, is-held}
 use Rattle.held.proofs.Laws.{setup-same}
 use Rattle.lbfgsb.specs.Words.{Words, words, Stands, Held}
 use Rattle.lbfgsb.specs.Chain.{Agree, Alike}

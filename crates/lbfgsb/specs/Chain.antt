@@ -30,7 +30,7 @@ use Rattle.definition.specs.History.{Call, Answer, History, refusalsOf, among, 
 use Rattle.definition.specs.Ordered.{inOrder, runInOrder, logInOrder, InOrder}
 use Rattle.area.specs.Area.{placeSlot, firstColumn, vectors}
 use Rattle.compact.specs.declared.Shape.{Shape}
-use Rattle.driver.specs.Replies.{isHeld, markAt, marked}
+use Rattle.held.specs.Test.{isHeld, markAt, marked}
 use Rattle.lbfgsb.specs.Words.{Words, lengths, setupOf, machineIn, logIn, Stands, Holds}
 use Rattle.lbfgsb.specs.Table.{answerAt, repliesLeft, zeroed, refusedLeft}
 

@@ -15,7 +15,7 @@ use Rattle.definition.specs.Book.{Book, book, openedBook, logOf}
 use Rattle.definition.specs.Record.{Reading, readRecord}
 use Rattle.definition.specs.History as H
 use Rattle.definition.specs.History.{Call, History, historyStep, historyAnswer}
-use Rattle.driver.specs.Replies.{isHeld}
+use Rattle.held.specs.Test.{isHeld}
 use Rattle.lbfgsb.specs.Words.{Words, lengths, setupOf, machineIn, logIn, Stands, Held, Holds}
 use Rattle.lbfgsb.specs.Table.{answerAt, checkBack, repliesLeft, zeroed}
 

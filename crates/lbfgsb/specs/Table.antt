@@ -16,7 +16,7 @@ use Rattle.definition.specs.Log.{entryWords, entriesKept}
 use Rattle.definition.specs.Record.{checkArea, readRecord, plainRefusal}
 use Rattle.definition.specs.Sound.{atEntry}
 use Rattle.definition.specs.History.{Call, Answer, outputShort, refusedBy, restoredAnswer}
-use Rattle.driver.specs.Replies.{isHeld}
+use Rattle.held.specs.Test.{isHeld}
 use Rattle.lbfgsb.specs.Words.{Words, words, lengths, setupOf, machineIn, logIn}
 pub use Rattle.lookup.specs.Reading.{wordsOfEntry, frontEntry, recordIn}
 unfoldable pub use Rattle.lookup.specs.Reading.{entryIn}

@@ -2,7 +2,7 @@
 use mathlib.Core.Path.{_≡_}
 use mathlib.Core.Bool.{false}
 use Rattle.definition.specs.History.{History}
-use Rattle.driver.specs.Replies.{isHeld}
+use Rattle.held.specs.Test.{isHeld}
 pub use Rattle.held.specs.Words.{Words, words, lengths, setupOf, machineIn, logIn, Stands, Held}
 
 abbrev pub Holds : Words → History → Type 0

@@ -87,7 +87,7 @@ pub fn reply(fit: Fit, area: &mut [f64], log: &mut [u64], said: Reply, gradient:
     ensures { λ r. ⌜ Replied (replied said (now (gradient .entry))) (words fit (now (area .entry)) (now (log .entry)))
         (words (next fit r) (now (area .exit)) (now (log .exit))) (kept r) ⌝ }
 {
-    if !driver::is_held(fit, area) {
+    if !held::is_held(fit, area) {
         return Answer::Refused(refusal(13, 0));
     }
     let check = accept::check_reply(fit, said, gradient.len(), log.len());
@@ -114,7 +114,7 @@ fn answered(r: Replayed) -> Answer
 pub fn take_back(fit: Fit, area: &mut [f64], log: &mut [u64], j: usize) -> Answer
     ensures { λ r. ⌜ TakenBack j (words fit (now (area .entry)) (now (log .entry))) (words (next fit r) (now (area .exit)) (now (log .exit))) (kept r) ⌝ }
 {
-    if !driver::is_held(fit, area) {
+    if !held::is_held(fit, area) {
         if j == 0 {
             return Answer::Kept(fit);
         }
@@ -152,7 +152,7 @@ pub fn question(fit: Fit, area: &[f64], out: &mut [f64]) -> Asked
         → Read (Call.question (length (now (out .entry)))) (words fit (now (area .entry)) l) (asked r (fit .shape .n) (now (out .exit))) (now (out .entry))
         (now (out .exit))) ⌝ }
 {
-    if !driver::is_held(fit, area) {
+    if !held::is_held(fit, area) {
         return Asked::Nothing;
     }
     let p = fit.phase;
@@ -175,7 +175,7 @@ pub fn report(fit: Fit, area: &[f64], out: &mut [f64]) -> Told
         → Read (Call.report (length (now (out .entry)))) (words fit (now (area .entry)) l) (told r (fit .shape .n) (now (out .exit))) (now (out .entry))
         (now (out .exit))) ⌝ }
 {
-    if !driver::is_held(fit, area) {
+    if !held::is_held(fit, area) {
         return Told::Refused(refusal(15, 0));
     }
     let p = fit.phase;
@@ -194,7 +194,7 @@ pub fn report(fit: Fit, area: &[f64], out: &mut [f64]) -> Told
 pub fn replies(fit: Fit, area: &[f64]) -> usize
     ensures { λ r. ⌜ ((l : List ℕ) → Counted r (words fit (now (area .entry)) l)) ⌝ }
 {
-    if driver::is_held(fit, area) {
+    if held::is_held(fit, area) {
         return fit.extra.entries;
     }
     0
@@ -206,7 +206,7 @@ pub fn entry(fit: Fit, area: &[f64], log: &[u64], k: usize, out: &mut [u64]) -> 
     ensures { λ r. ⌜ Read (Call.entry k (length (now (out .entry)))) (words fit (now (area .entry)) (now (log .entry))) (entered r (now (out .exit)))
         (now (out .entry)) (now (out .exit)) ⌝ }
 {
-    if !driver::is_held(fit, area) {
+    if !held::is_held(fit, area) {
         return Wrote::Is(0);
     }
     let words = fit.extra.words;
@@ -232,7 +232,7 @@ pub fn save(fit: Fit, area: &[f64], log: &[u64], out: &mut [u8]) -> Wrote
     ensures { λ r. ⌜ Read (Call.save (length (now (out .entry)))) (words fit (now (area .entry)) (now (log .entry))) (saved r (now (out .exit)))
         (now (out .entry)) (now (out .exit)) ⌝ }
 {
-    if !driver::is_held(fit, area) {
+    if !held::is_held(fit, area) {
         return Wrote::Is(0);
     }
     let words = fit.extra.words;

@@ -20,8 +20,8 @@ use Rattle.fit.specs.declared.Fit.{Fit}
 use Rattle.question.specs.Reports.{written}
 use Rattle.record.specs.Records.{Savable, setupSize, savedWords, savedRecord, overwritten}
 use Rattle.record.proofs.Saving.{saved-size}
-use Rattle.driver.specs.Replies.{isHeld}
-use Rattle.driver.proofs.Laws.{ReadyFacts, ready-facts, held-ready}
+use Rattle.held.specs.Test.{isHeld}
+use Rattle.held.proofs.Test.{ReadyFacts, ready-facts, held-ready}
 use Rattle.held.specs.Words.{words}
 use Rattle.lookup.specs.Reading.{recordIn, Placed}
 

@@ -12,14 +12,9 @@ use lib.Ieee.{Float, nan}
 use Rattle.definition.specs.Vector.{tab, word}
 use Rattle.definition.specs.Gradient as G
 use Rattle.definition.specs.Machine.{Side, probePoint}
-use Rattle.problem.specs.Setups.{floatOf, schemeOf}
-use Rattle.gradient.specs.Probing.{probesFor}
-use Rattle.gradient.proofs.Laws.{probes-at}
-use Rattle.area.specs.Area.{view, Trial, Lower, Upper}
+use Rattle.area.specs.Area.{view}
 use Rattle.area.proofs.Laws.{length-view, word-view}
 use Rattle.compact.proofs.Laws.{tab-word}
-use Rattle.fit.specs.State.{machineOf}
-use Rattle.fit.specs.declared.Fit.{Fit}
 use Rattle.question.specs.Reports.{written, probeWord}
 
 -- ---- a loop that writes n words from the front of z: b is the slice at turn i
@@ -59,16 +54,6 @@ front-done a n p {z} {b} {i} r h l =
     let e : i ≡ n = omega (arith, r .upto) in
     let q = length-view a n p l in
     rw (r .is, e, q, tab-word n (view a n p) q)
-
--- ---- what is probed, read off the area
-
-pub probes-read : (t : Fit) (a : List Float) (i : ℕ) → i < t .shape .n
-    → probesFor (floatOf (t .options .eps)) (schemeOf (t .options .scheme))
-    (word a (Trial * t .shape .n + i)) (word a (Lower * t .shape .n + i)) (word a (Upper * t .shape .n + i))
-    ≡ G.probesAt (machineOf t a .terms) (view a (t .shape .n) Trial) i
-probes-read t a i h =
-    let n = t .shape .n in
-    rw (word-view a n Trial i h, word-view a n Lower i h, word-view a n Upper i h) (probes-at (machineOf t a .terms) i (view a n Trial))
 
 -- ---- a probe's point
 

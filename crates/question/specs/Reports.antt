@@ -1,22 +1,11 @@
 -- The open question and the report, as they are handed out: a point into a slice of floats, numbers in a struct.
-use Prim.Native.Nat.{ℕ, _<_}
 use mathlib.Core.List.{List, [], _++_}
 use mathlib.Core.Option.{Option, none, some}
 use lib.ListN.{length, drop}
 use lib.Ieee.{Float}
 use Rattle.definition.specs.Gradient as G
 use Rattle.definition.specs.Machine as M
-use Rattle.fit.specs.declared.Phase.{Phase}
-use Rattle.fit.specs.declared.Phase.the-variants.{Value, Gradient, Probe, Notice, Ended}
 use Rattle.question.specs.declared.Outcome.{Outcome}
-
--- a probe is of a coordinate that there is
-abbrev pub Within : Phase → ℕ → Type 0
-Within (Value w) n = Unit {0}
-Within (Gradient w) n = Unit {0}
-Within (Probe w i s) n = i < n
-Within Notice n = Unit {0}
-Within (Ended t) n = Unit {0}
 
 abbrev pub pointAsked : Option M.Question → List Float
 pointAsked none = []

@@ -28,8 +28,9 @@ use Rattle.fit.specs.declared.Phase.{Phase}
 use Rattle.fit.specs.declared.Phase.the-variants.{Value, Gradient, Probe, Notice, Ended}
 use Rattle.question.specs.Reports.{Within}
 use Rattle.opening.specs.Opened.{setupAt, Room, Fits, Opened}
-use Rattle.driver.specs.Replies.{mostWords, isReady, Marks}
-use Rattle.driver.proofs.Laws.{shape-facts, shape-sound, ready-facts, facts-ready, shape-again, marked-machine}
+use Rattle.fit.specs.State.{mostWords}
+use Rattle.held.specs.Test.{isReady, Marks}
+use Rattle.held.proofs.Test.{shape-facts, shape-sound, ready-facts, facts-ready, shape-again, marked-machine}
 use Rattle.record.specs.Records.{setupFrom}
 use Rattle.replay.specs.Replays.{Keeps, Replays}
 use Rattle.replay.specs.declared.Replayed.{Replayed}

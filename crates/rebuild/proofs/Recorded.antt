@@ -17,7 +17,7 @@ use Rattle.problem.specs.Setups.{placesIn}
 use Rattle.problem.specs.declared.Options.{Options}
 use Rattle.fit.specs.declared.Fit.{Fit}
 use Rattle.opening.specs.Opened.{Room, Opened}
-use Rattle.driver.specs.Replies.{isReady}
+use Rattle.held.specs.Test.{isReady}
 use Rattle.record.specs.declared.Frame.{Frame}
 use Rattle.record.specs.Records.{wordsIn, setupFrom, floatsOf, Opens}
 use Rattle.record.proofs.Reading.{words-drop, needed}

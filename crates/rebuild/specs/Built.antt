@@ -18,7 +18,7 @@ use Rattle.compact.specs.State.{Sound}
 use Rattle.search.specs.State.{Settled}
 use Rattle.fit.specs.declared.Fit.{Fit}
 use Rattle.opening.specs.Opened.{setupAt}
-use Rattle.driver.specs.Replies.{shapeHeld, marked, Marks}
+use Rattle.held.specs.Test.{shapeHeld, marked, Marks}
 use Rattle.record.specs.declared.Frame.{Frame}
 use Rattle.replay.specs.Replays.{Replayable, ReplayedTo, RefusedAt}
 use Rattle.replay.specs.declared.Replayed.{Replayed}

@@ -7,7 +7,7 @@ ghost use lib.ListN.{length, take, drop};
 ghost use Rattle.definition.specs.Record.{wordsOf, setupIn as setupRead};
 ghost use Rattle.area.specs.Area.{view};
 ghost use Rattle.opening.specs.Opened.{setupAt, Room, Opened};
-ghost use Rattle.driver.specs.Replies.{isReady};
+ghost use Rattle.held.specs.Test.{isReady};
 ghost use Rattle.record.specs.Records.{wordsIn, setupFrom, Opens};
 ghost use Rattle.rebuild.specs.Built.{zeroed, struckOut, entriesIn, headed, Markable, Settles, allOf, Builds, Stays, Shortens, Reloads};
 use fit::Fit;
@@ -61,7 +61,7 @@ fn settle(area: &mut [f64], r: Replayed)
         Replayed::Refused(_) => zero_area(area),
         Replayed::Done(t) => {
             let h = t.shape;
-            driver::mark(area, h);
+            held::mark(area, h);
         }
     }
 }

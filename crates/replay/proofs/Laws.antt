@@ -30,9 +30,10 @@ use Rattle.fit.specs.State.{machineOf, phaseOf, Steps}
 use Rattle.fit.specs.declared.Extra.{Extra}
 use Rattle.fit.specs.declared.Fit.{Fit}
 use Rattle.question.specs.Reports.{Within}
-use Rattle.driver.specs.Replies.{shapeHeld, mostWords, isReady}
+use Rattle.fit.specs.State.{mostWords}
+use Rattle.held.specs.Test.{shapeHeld, isReady}
 use Rattle.driver.specs.declared.Reply.{Reply}
-use Rattle.driver.proofs.Laws.{ready-facts, shape-again, few-ready, log-few}
+use Rattle.held.proofs.Test.{ready-facts, shape-again, few-ready, log-few}
 use Rattle.driver.proofs.Steps.{suits-any, due-by-kind, DueSaid}
 use Rattle.replay.specs.declared.Replayed.{Replayed}
 use Rattle.replay.specs.declared.Replayed.the-variants.{Done, Refused}

@@ -20,7 +20,7 @@ use Rattle.differences.specs.declared.Probing.{Probing}
 use Rattle.differences.specs.declared.Turned.{Turned}
 use Rattle.differences.specs.declared.Turned.the-variants.{Stays, On}
 use Rattle.differences.specs.Runs.{probing, TurnIs}
-use Rattle.driver.specs.Replies.{shapeHeld}
+use Rattle.held.specs.Test.{shapeHeld}
 use Rattle.driver.specs.declared.Reply.{Reply}
 use Rattle.driver.specs.declared.Reply.the-variants as R
 use Rattle.replay.specs.declared.Entry.{Entry}

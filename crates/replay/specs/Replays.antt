@@ -16,7 +16,8 @@ use Rattle.area.specs.Area.{view, Saved}
 use Rattle.search.specs.State.{Settled}
 use Rattle.fit.specs.State.{machineOf}
 use Rattle.fit.specs.declared.Fit.{Fit}
-use Rattle.driver.specs.Replies.{shapeHeld, mostWords, isReady}
+use Rattle.fit.specs.State.{mostWords}
+use Rattle.held.specs.Test.{shapeHeld, isReady}
 use Rattle.replay.specs.declared.Source.{Source}
 use Rattle.replay.specs.declared.Replayed.{Replayed}
 use Rattle.replay.specs.declared.Replayed.the-variants.{Done, Refused}

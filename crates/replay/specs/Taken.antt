@@ -22,7 +22,7 @@ use Rattle.differences.specs.declared.Probing.{Probing}
 use Rattle.differences.specs.declared.Turned.{Turned}
 use Rattle.differences.specs.declared.Turned.the-variants.{Stays, On}
 use Rattle.differences.specs.Runs.{probing}
-use Rattle.driver.specs.Replies.{shapeHeld, isReady}
+use Rattle.held.specs.Test.{shapeHeld, isReady}
 pub use Rattle.driver.specs.Replies.{replied}
 use Rattle.driver.specs.declared.Reply.{Reply}
 use Rattle.driver.specs.declared.Reply.the-variants as R

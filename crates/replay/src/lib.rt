@@ -13,7 +13,8 @@ ghost use Rattle.area.specs.Area.{view, upd, firstPair, TrialGradient};
 ghost use Rattle.fit.specs.State.{Steps};
 ghost use Rattle.compact.specs.State.{Sound};
 ghost use Rattle.differences.specs.Runs.{probing};
-ghost use Rattle.driver.specs.Replies.{shapeHeld, isReady, mostWords};
+ghost use Rattle.fit.specs.State.{mostWords};
+ghost use Rattle.held.specs.Test.{shapeHeld, isReady};
 ghost use Rattle.replay.specs.Replays.{sourceWords, Within, withLog, Replays};
 ghost use Rattle.replay.specs.Taken.{replied, sizeOf, kindReply, gradientAt, EntryIs, isDue, admission, NextIs, Run, TakenIs};
 use differences::Probing;
@@ -141,7 +142,7 @@ fn entry_at(n: usize, s: Source, log: &[u64], input: &[u8], at: usize) -> Entry
 fn admitted(t: Fit, size: usize, r: Reply, length: usize, room: usize) -> usize
     ensures { λ c. ⌜ c ≡ admission (isReady t size && isDue t r) (ltb room (t .extra .words + length)) ⌝ }
 {
-    if !driver::is_ready(t, size) {
+    if !held::is_ready(t, size) {
         return BAD_ENTRY;
     }
     let due = driver::check_due(t, r);

@@ -18,7 +18,7 @@ use Rattle.definition.specs.History.{Call, refusedBy}
 use Rattle.definition.specs.Programs.{inputCoordinates, Printed, printedFit, printedOf, printed, readInput}
 use Rattle.problem.specs.declared.Refusal.{Refusal}
 use Rattle.fit.specs.declared.Fit.{Fit}
-use Rattle.driver.proofs.Laws.{ready-facts, held-ready}
+use Rattle.held.proofs.Test.{ready-facts, held-ready}
 use Rattle.lbfgsb.specs.Words.{Words, words, machineIn, Held}
 use Rattle.lbfgsb.specs.Bridge.{told}
 use Rattle.lbfgsb.specs.Did.{Read}

@@ -7,8 +7,8 @@ use lib.ListN.{length}
 use Rattle.definition.specs.Log.{entryWords}
 use Rattle.fit.proofs.Laws.{first-room}
 use Rattle.record.specs.Records.{entrySize}
-use Rattle.driver.specs.Replies.{shapeHeld}
-use Rattle.driver.proofs.Laws.{ready-facts, shape-again}
+use Rattle.held.specs.Test.{shapeHeld}
+use Rattle.held.proofs.Test.{ready-facts, shape-again}
 use Rattle.replay.specs.Taken.{replied}
 use Rattle.accept.proofs.Replying.{due-long, entry-size, entry-few, advances}
 use Rattle.accept.proofs.advanced.Statement.{statement}

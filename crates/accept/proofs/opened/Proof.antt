@@ -2,7 +2,7 @@
 use borrow.Author.Needs.{needs}
 use lib.ListN.{length}
 use Rattle.problem.specs.Setups.{setupIn}
-use Rattle.driver.proofs.Laws.{ready-facts}
+use Rattle.held.proofs.Test.{ready-facts}
 use Rattle.held.proofs.Laws.{reached-ready}
 use Rattle.accept.proofs.Starting.{start-room, start-reached, start-held}
 use Rattle.accept.proofs.opened.Statement.{statement}

@@ -7,7 +7,7 @@ use borrow.Author.Tests.{not-true, not-false}
 use lib.Ieee.{ofBits}
 use Rattle.area.specs.Area.{TrialGradient}
 use Rattle.fit.proofs.Laws.{first-room, low-room}
-use Rattle.differences.proofs.Laws.{Passed, passed-none, passed-more, passed-asks, passed-complete, probes-read}
+use Rattle.differences.proofs.Laws.{Passed, passed-none, passed-more, passed-asks, passed-complete, probes-of}
 use Rattle.differences.proofs.probe_from.Statement.{statement}
 use Rattle.differences.proofs.probe_from.Tie as tie
 
@@ -39,7 +39,7 @@ returns c =
     let h = t .before in
     let l = t .loop-test .taken in
     let fit = h .before .before .before .args .fit in
-    passed-asks (h .loop .inv) (c .before .first-side .result) l (p .probes-at .ensures ∙ probes-read fit _ _ l)
+    passed-asks (h .loop .inv) (c .before .first-side .result) l (p .probes-at .ensures ∙ probes-of fit _ _ l)
     (sym (u .is-unprobed .ensures) ∙ not-true _ (c .before .before .if1 .taken)) (c .before .first-side .ensures) (c .ask-probe .ensures _)
 
 loop-again : tie.Need-loop-again Inv-loop μ-loop
@@ -50,7 +50,7 @@ loop-again c =
     let t = p .before .before in
     let l = t .loop-test .taken in
     let fit = t .before .before .before .before .args .fit in
-    passed-more (t .before .loop .inv) l (c .before .area .given) (c .before .before .put .ensures) (p .probes-at .ensures ∙ probes-read fit _ _ l)
+    passed-more (t .before .loop .inv) l (c .before .area .given) (c .before .before .put .ensures) (p .probes-at .ensures ∙ probes-of fit _ _ l)
     (sym (u .is-unprobed .ensures) ∙ not-false _ (c .before .before .before .before .if1 .left))
 
 returns-2 : tie.Need-returns-2 Inv-loop μ-loop

@@ -5,7 +5,7 @@ use Rattle.driver.proofs.advance.Statement.{statement}
 use Rattle.driver.proofs.advance.Tie as tie
 
 returns : tie.Need-returns
-returns c = let k = c .before .before in as-reply (k .before .before .before .r .given .1) (k .on-value-word .ensures)
+returns c = let k = c .before .before in as-reply (k .before .before .before .reply .given .1) (k .on-value-word .ensures)
 
 returns-2 : tie.Need-returns-2
 returns-2 c = let k = c .before .before in as-reply (k .before .before .enum-told .given .1) (k .on-gradient .ensures)

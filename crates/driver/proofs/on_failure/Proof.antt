@@ -9,11 +9,11 @@ use Rattle.driver.proofs.on_failure.Tie as tie
 
 returns : tie.Need-returns
 returns c =
-    record { shape = refl; kept = kept-refl; is = λ v. no-failure (c .before .before .args .t .phase) _ (sym (c .before .kind-of .ensures) ∙ c .if1 .taken) }
+    record { shape = refl; kept = kept-refl; is = λ v. no-failure (c .before .before .args .fit .phase) _ (sym (c .before .kind-of .ensures) ∙ c .if1 .taken) }
 
 returns-2 : tie.Need-returns-2
 returns-2 c =
-    let t = c .before .before .before .args .t in
+    let t = c .before .before .before .args .fit in
     turns-as (c .ended .ensures) (λ v. failure (t .phase) (machine t v) (λ e. c .before .if1 .left (c .before .before .kind-of .ensures ∙ e)))
 
 pub on-failure-spec : {M : Type 1} → statement M

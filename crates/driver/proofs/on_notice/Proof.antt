@@ -9,7 +9,7 @@ use Rattle.driver.proofs.on_notice.Statement.{statement}
 use Rattle.driver.proofs.on_notice.Tie as tie
 
 returns : tie.Need-returns
-returns c = let s = c .before .before in no-notice (s .args .t) _ (s .args .stop) (c .match .keys2)
+returns c = let s = c .before .before in no-notice (s .args .fit) _ (s .args .stop) (c .match .keys2)
 
 returns-2 : tie.Need-returns-2
 returns-2 c =

@@ -15,7 +15,7 @@ on-probe-requires c κs =
 
 returns : tie.Need-returns
 returns c =
-    in-phase (R.Value _) (Value _) (turned (c .on-value .ensures)) (c .before .before .before .p .given .1)
+    in-phase (R.Value _) (Value _) (turned (c .on-value .ensures)) (c .before .before .before .phase .given .1)
     (λ m. value-as _ m (c .before .word-to-float .ensures))
 
 returns-2 : tie.Need-returns-2

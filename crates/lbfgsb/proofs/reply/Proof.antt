@@ -3,7 +3,7 @@ use mathlib.Core.Path.{_≡_, refl, sym, _∙_}
 use borrow.Author.Needs.{needs}
 use borrow.Author.Tests.{not-true, not-false}
 use lib.ListN.{length}
-use Rattle.driver.proofs.Laws.{ready-facts, held-ready}
+use Rattle.held.proofs.Test.{ready-facts, held-ready}
 use Rattle.lbfgsb.specs.Words.{words}
 use Rattle.lbfgsb.specs.Bridge.{replied}
 use Rattle.accept.proofs.Checks.{passed, refused}

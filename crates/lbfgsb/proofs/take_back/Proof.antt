@@ -3,7 +3,7 @@ use mathlib.Core.Path.{sym, _∙_}
 use native.Mathlib.Omega.{arith}
 use borrow.Author.Needs.{needs}
 use borrow.Author.Tests.{not-true, not-false}
-use Rattle.driver.proofs.Laws.{held-ready}
+use Rattle.held.proofs.Test.{held-ready}
 use Rattle.lbfgsb.specs.Words.{words}
 use Rattle.lbfgsb.proofs.Back.{back-by, unheld-refused, many-refused, short-refused, unheld-kept, answered-back}
 use Rattle.lbfgsb.proofs.take_back.Statement.{statement}

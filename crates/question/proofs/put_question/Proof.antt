@@ -6,7 +6,7 @@ use Rattle.question.proofs.put_question.Tie as tie
 put-probe-requires : tie.Need-put-probe-requires
 put-probe-requires c κs =
     let s = c .before .before .before .before .before .before in
-    (s .pre .0, rw (c .before .before .p .given .1) at (s .pre .1), search needs)
+    (s .pre .0, rw (c .before .before .phase .given .1) at (s .pre .1), search needs)
 
 returns : tie.Need-returns
 returns c = rw (c .before .before .before .before .enum-told .given .1) (c .before .before .copy-out .ensures)
@@ -15,7 +15,7 @@ returns-2 : tie.Need-returns-2
 returns-2 c = rw (c .before .before .before .before .enum-told2 .given .1) (c .before .before .copy-out2 .ensures)
 
 returns-3 : tie.Need-returns-3
-returns-3 c = rw (c .before .before .before .before .before .p .given .1) (c .before .before .put-probe .ensures)
+returns-3 c = rw (c .before .before .before .before .before .phase .given .1) (c .before .before .put-probe .ensures)
 
 returns-4 : tie.Need-returns-4
 returns-4 c = rw (c .before .before .before .before .enum-told3 .given .1) (c .before .before .copy-out3 .ensures)

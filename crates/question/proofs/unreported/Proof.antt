@@ -4,10 +4,10 @@ use Rattle.question.proofs.unreported.Statement.{statement}
 use Rattle.question.proofs.unreported.Tie as tie
 
 returns : tie.Need-returns
-returns c = rw (c .before .before .before .p .given .1, c .enum-told .given .1)
+returns c = rw (c .before .before .before .phase .given .1, c .enum-told .given .1)
 
 returns-6 : tie.Need-returns-6
-returns-6 c = rw (c .before .before .p2 .given .1, c .status-number .ensures)
+returns-6 c = rw (c .before .before .phase2 .given .1, c .status-number .ensures)
 
 pub unreported-spec : {M : Type 1} → statement M
 unreported-spec =

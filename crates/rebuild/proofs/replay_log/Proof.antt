@@ -6,8 +6,8 @@ use Prim.Native.Nat.{_≤_, _<_}
 use native.Mathlib.Omega.{arith}
 use lib.ListN.{length, take}
 use lib.Seq.{length-take-le}
-use Rattle.driver.specs.Replies.{mostWords}
-use Rattle.driver.proofs.Laws.{ready-facts}
+use Rattle.fit.specs.State.{mostWords}
+use Rattle.held.proofs.Test.{ready-facts}
 use Rattle.replay.specs.declared.Replayed.{Replayed}
 use Rattle.rebuild.specs.Built.{Markable}
 use Rattle.rebuild.proofs.Built.{ready-room, opened-ready, markable-all, stays-by}

@@ -3,7 +3,7 @@ use mathlib.Core.Path.{sym, _∙_}
 use native.Mathlib.Omega.{arith}
 use borrow.Author.Needs.{needs}
 use borrow.Author.Tests.{not-true, not-false}
-use Rattle.driver.specs.Replies.{isReady}
+use Rattle.held.specs.Test.{isReady}
 use Rattle.replay.specs.Taken.{isDue}
 use Rattle.replay.proofs.Laws.{due-is, undue-is, not-ready, not-due, no-room, room-left}
 use Rattle.replay.proofs.admitted.Statement.{statement}

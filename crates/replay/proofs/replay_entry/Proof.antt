@@ -5,7 +5,7 @@ use denote.Ref.{now}
 use native.Mathlib.Omega.{arith}
 use borrow.Author.Needs.{needs}
 use lib.ListN.{length}
-use Rattle.driver.proofs.Laws.{ready-facts}
+use Rattle.held.proofs.Test.{ready-facts}
 use Rattle.replay.specs.Replays.{sourceWords}
 use Rattle.replay.specs.Taken.{EntryIs}
 use Rattle.replay.proofs.Words.{source-count}

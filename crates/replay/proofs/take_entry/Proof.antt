@@ -3,7 +3,7 @@ use denote.Ref.{now}
 use native.Mathlib.Omega.{arith}
 use borrow.Author.Needs.{needs}
 use Rattle.fit.proofs.Laws.{first-room}
-use Rattle.driver.proofs.Laws.{ready-facts}
+use Rattle.held.proofs.Test.{ready-facts}
 use Rattle.replay.specs.Replays.{sourceWords}
 use Rattle.replay.specs.Taken.{gradientAt}
 use Rattle.replay.proofs.Entries.{gradient-fits}

@@ -1,14 +1,14 @@
--- `driver::mark` meets its contract: the mark stands behind the vectors. Assumes nothing.
+-- `held::mark` meets its contract: the mark stands behind the vectors. Assumes nothing.
 use native.Mathlib.Omega.{arith}
 use borrow.Author.Needs.{needs}
 use denote.Ref.{now}
 use lib.ListN.{length}
 use Rattle.float.proofs.Constants.{one-is}
-use Rattle.driver.proofs.Steps.{Behind, mark-behind, mark-most, marks}
-use Rattle.driver.proofs.mark.Statement.{statement}
-use Rattle.driver.proofs.mark.Tie as tie
+use Rattle.held.proofs.Parts.{Behind, mark-behind, mark-most, marks}
+use Rattle.held.proofs.mark.Statement.{statement}
+use Rattle.held.proofs.mark.Tie as tie
 
-place : (c : tie.Start) → Behind (c .args .h) (length (now (c .args .area)))
+place : (c : tie.Start) → Behind (c .args .shape) (length (now (c .args .area)))
 place c = mark-behind _ _ (c .pre)
 
 mark-at-requires : tie.Need-mark-at-requires
@@ -18,7 +18,7 @@ mul-area : tie.Need-mul-area
 mul-area c =
     let s = c .before .before in
     let b = place s in
-    omega (arith, c .mark-at .ensures, mark-most (s .args .h) (b .n) (b .m))
+    omega (arith, c .mark-at .ensures, mark-most (s .args .shape) (b .n) (b .m))
 
 write : tie.Need-slice-write-area
 write c = rw (c .mark-at .ensures) (place (c .before .before) .room)

@@ -1,26 +1,26 @@
--- `driver::is_ready` meets its contract: the tests in their order. Assumes nothing.
+-- `held::is_ready` meets its contract: the tests in their order. Assumes nothing.
 use mathlib.Core.Path.{_≡_, sym, _∙_}
 use mathlib.Core.Bool.{true}
 use borrow.Author.Tests.{eq-eqb, ne-eqb, not-true, not-false}
 use borrow.Author.Needs.{needs}
 use lib.Dec.{eqb}
 use Rattle.problem.specs.Setups.{placesIn}
-use Rattle.driver.specs.Replies.{shapeHeld, countsHeld, logHeld}
-use Rattle.driver.proofs.Steps.{shape-fails, places-fail, counts-fail, log-fails, phase-left}
-use Rattle.driver.proofs.is_ready.Statement.{statement}
-use Rattle.driver.proofs.is_ready.Tie as tie
+use Rattle.held.specs.Test.{shapeHeld, countsHeld, logHeld}
+use Rattle.held.proofs.Parts.{shape-fails, places-fail, counts-fail, log-fails, phase-left}
+use Rattle.held.proofs.is_ready.Statement.{statement}
+use Rattle.held.proofs.is_ready.Tie as tie
 
-shape-passed : (c : tie.Else1) → (let s = c .before .before .before in shapeHeld (s .args .t .shape) (s .args .size) ≡ true)
+shape-passed : (c : tie.Else1) → (let s = c .before .before .before in shapeHeld (s .args .fit .shape) (s .args .size) ≡ true)
 shape-passed c = sym (c .before .shape-held .ensures) ∙ not-false _ (c .if1 .left)
 
-places-passed : (c : tie.Else2) → (let s = c .before .before .before .before .before .before .before in eqb (placesIn (s .args .t .options)) (s .args .t .shape .m) ≡ true)
+places-passed : (c : tie.Else2) → (let s = c .before .before .before .before .before .before .before in eqb (placesIn (s .args .fit .options)) (s .args .fit .shape .m) ≡ true)
 places-passed c = eq-eqb _ _ (sym (c .before .before .places .ensures) ∙ c .if2 .left)
 
-counts-passed : (c : tie.Else3) → (let s = c .before .before .before .before .before .before .before .before .before .before in countsHeld (s .args .t .counters) ≡ true)
+counts-passed : (c : tie.Else3) → (let s = c .before .before .before .before .before .before .before .before .before .before in countsHeld (s .args .fit .counters) ≡ true)
 counts-passed c = sym (c .before .counts-held .ensures) ∙ not-false _ (c .if3 .left)
 
 log-passed : (c : tie.Else4)
-    → (let x = c .before .before .before .before .before .before .before .before .before .before .before .before .args .t .extra in logHeld (x .entries) (x .words) ≡ true)
+    → (let x = c .before .before .before .before .before .before .before .before .before .before .before .before .args .fit .extra in logHeld (x .entries) (x .words) ≡ true)
 log-passed c = sym (c .before .log-held .ensures) ∙ not-false _ (c .if4 .left)
 
 returns : tie.Need-returns

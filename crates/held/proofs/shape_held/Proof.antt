@@ -1,9 +1,9 @@
--- `driver::shape_held` meets its contract: the tests in their order. Assumes nothing.
+-- `held::shape_held` meets its contract: the tests in their order. Assumes nothing.
 use borrow.Author.Tests.{lt-ltb, le-ltb, le-leb, lt-leb}
 use native.Mathlib.Omega.{arith}
-use Rattle.driver.proofs.Steps.{none-ltb, some-ltb}
-use Rattle.driver.proofs.shape_held.Statement.{statement}
-use Rattle.driver.proofs.shape_held.Tie as tie
+use Rattle.held.proofs.Parts.{none-ltb, some-ltb}
+use Rattle.held.proofs.shape_held.Statement.{statement}
+use Rattle.held.proofs.shape_held.Tie as tie
 
 returns : tie.Need-returns
 returns c = simp (none-ltb _ (c .if1 .taken))

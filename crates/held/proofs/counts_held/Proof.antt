@@ -1,7 +1,7 @@
--- `driver::counts_held` meets its contract: each count in turn. Assumes nothing.
+-- `held::counts_held` meets its contract: each count in turn. Assumes nothing.
 use borrow.Author.Tests.{lt-ltb, le-ltb}
-use Rattle.driver.proofs.counts_held.Statement.{statement}
-use Rattle.driver.proofs.counts_held.Tie as tie
+use Rattle.held.proofs.counts_held.Statement.{statement}
+use Rattle.held.proofs.counts_held.Tie as tie
 
 returns : tie.Need-returns
 returns c = simp (le-ltb _ _ (c .if1 .taken))

@@ -1,7 +1,7 @@
--- `driver::log_held` meets its contract. Assumes nothing.
+-- `held::log_held` meets its contract. Assumes nothing.
 use borrow.Author.Tests.{lt-ltb, le-ltb}
-use Rattle.driver.proofs.log_held.Statement.{statement}
-use Rattle.driver.proofs.log_held.Tie as tie
+use Rattle.held.proofs.log_held.Statement.{statement}
+use Rattle.held.proofs.log_held.Tie as tie
 
 returns : tie.Need-returns
 returns c = simp (le-ltb _ _ (c .if1 .taken))

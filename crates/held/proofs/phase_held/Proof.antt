@@ -1,7 +1,7 @@
--- `driver::phase_held` meets its contract: each phase by the clause for it. Assumes nothing.
+-- `held::phase_held` meets its contract: each phase by the clause for it. Assumes nothing.
 use borrow.Author.Needs.{needs}
-use Rattle.driver.proofs.phase_held.Statement.{statement}
-use Rattle.driver.proofs.phase_held.Tie as tie
+use Rattle.held.proofs.phase_held.Statement.{statement}
+use Rattle.held.proofs.phase_held.Tie as tie
 
 returns : tie.Need-returns
 returns c = simp (c .enum-told .given .1)
@@ -10,7 +10,7 @@ returns-2 : tie.Need-returns-2
 returns-2 c = simp (c .enum-told2 .given .1)
 
 returns-3 : tie.Need-returns-3
-returns-3 c = simp (c .before .p .given .1)
+returns-3 c = simp (c .before .phase .given .1)
 
 returns-4 : tie.Need-returns-4
 returns-4 c = simp (c .enum-told3 .given .1)

@@ -1,4 +1,4 @@
--- `driver::is_held` meets its contract: the test of the state, then the mark. Assumes nothing.
+-- `held::is_held` meets its contract: the test of the state, then the mark. Assumes nothing.
 use mathlib.Core.Path.{sym, _∙_}
 use native.Mathlib.Omega.{arith}
 use borrow.Author.Tests.{not-true, not-false}
@@ -6,12 +6,12 @@ use borrow.Author.Needs.{needs}
 use denote.Ref.{now}
 use lib.ListN.{length}
 use Rattle.float.proofs.Constants.{one-is}
-use Rattle.driver.proofs.Laws.{ready-facts}
-use Rattle.driver.proofs.Steps.{Behind, unready-unheld, ready-marked, mark-behind, mark-most}
-use Rattle.driver.proofs.is_held.Statement.{statement}
-use Rattle.driver.proofs.is_held.Tie as tie
+use Rattle.held.proofs.Test.{ready-facts}
+use Rattle.held.proofs.Parts.{Behind, unready-unheld, ready-marked, mark-behind, mark-most}
+use Rattle.held.proofs.is_held.Statement.{statement}
+use Rattle.held.proofs.is_held.Tie as tie
 
-place : (c : tie.Else1) → (let s = c .before .before .before in Behind (s .args .t .shape) (length (now (s .args .area))))
+place : (c : tie.Else1) → (let s = c .before .before .before in Behind (s .args .fit .shape) (length (now (s .args .area))))
 place c = mark-behind _ _ (ready-facts _ _ (sym (c .before .is-ready .ensures) ∙ not-false _ (c .if1 .left)) .shape)
 
 returns : tie.Need-returns
@@ -23,7 +23,7 @@ mark-at-requires c κs = let b = place (c .before) in (b .n, b .m)
 mul-result : tie.Need-mul-result
 mul-result c =
     let b = place (c .before .before) in
-    omega (arith, c .mark-at .ensures, mark-most (c .before .before .before .before .before .args .t .shape) (b .n) (b .m))
+    omega (arith, c .mark-at .ensures, mark-most (c .before .before .before .before .before .args .fit .shape) (b .n) (b .m))
 
 read : tie.Need-shared-slice-read-result
 read c = rw (c .before .mark-at .ensures) (place (c .before .before .before) .room)

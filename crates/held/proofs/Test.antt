@@ -20,22 +20,21 @@ use Rattle.definition.specs.Replies.{Accepted, Due}
 use Rattle.definition.proofs.Tests.{first-true, second-true}
 use Rattle.definition.proofs.Accepted.{accepted-in-limits}
 use Rattle.definition.proofs.Counts.{terms-stay, counts-few}
-use Rattle.definition.proofs.Probed.{InRange, probe-in-range}
+use Rattle.definition.proofs.Probed.{probe-in-range}
 use Rattle.definition.proofs.Lengths.{log-length}
 use Rattle.definition.proofs.Entries.{entries-most}
 use Rattle.area.specs.Area.{view, X0, Lower, Upper}
 use Rattle.problem.specs.Setups.{placesIn, setupIn}
 use Rattle.counters.specs.Counts.{countersOf, mostCounted}
 use Rattle.compact.specs.State.{Sound}
-use Rattle.fit.specs.State.{machineOf, phaseOf}
+use Rattle.fit.specs.State.{machineOf, phaseOf, mostWords}
 use Rattle.fit.proofs.Laws.{model-same}
 use Rattle.fit.specs.declared.Fit.{Fit}
 use Rattle.fit.specs.declared.Phase.{Phase}
 use Rattle.fit.specs.declared.Phase.the-variants.{Value, Gradient, Probe, Notice, Ended}
 use Rattle.compact.specs.declared.Shape.{Shape}
-use Rattle.judge.specs.Ready.{Ready}
-use Rattle.question.specs.Reports.{Within}
-use Rattle.driver.specs.Replies.{markAt, shapeHeld, phaseHeld, marked, isReady, isHeld, mostWords, Marks}
+use Rattle.fit.specs.Ready.{Ready}
+use Rattle.held.specs.Test.{markAt, shapeHeld, phaseHeld, marked, isReady, isHeld, Marks}
 
 -- ---- tests that are joined
 
@@ -69,7 +68,7 @@ shape-sound k = omega (arith, k)
 -- what the test gives
 pub record ReadyFacts (t : Fit) (size : ℕ) : Type 0 where
   pub ready : Ready t size
-  pub within : Within (t .phase) (t .shape .n)
+  pub within : M.InRange (phaseOf (t .phase)) (t .shape .n)
   pub shape : shapeHeld (t .shape) size ≡ true
   pub positive : 0 < t .shape .n
   pub some : 0 < t .shape .m
@@ -78,14 +77,14 @@ pub record ReadyFacts (t : Fit) (size : ℕ) : Type 0 where
   pub entries : t .extra .entries < mostWords
   pub words : t .extra .words < mostWords
 
-held-within : (p : Phase) (n : ℕ) → phaseHeld p n ≡ true → Within p n
+held-within : (p : Phase) (n : ℕ) → phaseHeld p n ≡ true → M.InRange (phaseOf p) n
 held-within (Value w) n h = tt
 held-within (Gradient w) n h = tt
 held-within (Probe w i s) n h = ltb-true i n h
 held-within Notice n h = tt
 held-within (Ended t) n h = tt
 
-within-held : (p : Phase) (n : ℕ) → Within p n → phaseHeld p n ≡ true
+within-held : (p : Phase) (n : ℕ) → M.InRange (phaseOf p) n → phaseHeld p n ≡ true
 within-held (Value w) n h = refl
 within-held (Gradient w) n h = refl
 within-held (Probe w i s) n h = lt-ltb i n h
@@ -140,14 +139,6 @@ counts-small t s rs d e h =
     let njev : t .counters .njev ≡ run s rs .counters .njev = ap (λ (k : C.Counters). k .njev) e in
     omega (arith, counts-few s rs d)
 
--- the coordinate of an open probe is below n
-range-within : (p : Phase) (n : ℕ) → InRange (phaseOf p) n → Within p n
-range-within (Value w) n h = tt
-range-within (Gradient w) n h = tt
-range-within (Probe w i s) n h = h
-range-within Notice n h = tt
-range-within (Ended t) n h = tt
-
 -- with a log that the test lets pass it passes the test, whether or not the setup is accepted
 pub few-ready :
     (t : Fit) (size : ℕ) (a : List Float) (s : Setup) (rs : List M.Reply) → Due s rs → machineOf t a ≡ run s rs → shapeHeld (t .shape) size ≡ true
@@ -160,7 +151,7 @@ few-ready t size a s rs d e h p n w few =
     facts-ready t size
     (record {
       ready = record { sound = shape-sound k; nit = small .0; njev = small .1; n = k .n };
-      within = range-within (t .phase) (t .shape .n) (subst (λ (m : M.Machine). InRange (m .phase) (m .terms .n)) (sym e) (probe-in-range s rs d));
+      within = subst (λ (m : M.Machine). M.InRange (m .phase) (m .terms .n)) (sym e) (probe-in-range s rs d);
       shape = h;
       positive = k .positive;
       some = k .some;
