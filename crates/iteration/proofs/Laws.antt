@@ -20,7 +20,7 @@ use Rattle.compact.specs.declared.Shape.{Shape}
 use Rattle.compact.specs.State.{pairsOf, compactOf, Sound, PairsKept}
 use Rattle.compact.proofs.Laws.{pairs-count}
 use Rattle.cauchy.specs.State.{Points}
-use Rattle.subspace.specs.State.{boundsOf, minimumAt, Minimizes, endsIn, headed}
+use Rattle.subspace.specs.State.{boundsOf, minimumAt, Minimizes, endsIn, directed}
 use Rattle.subspace.proofs.Ends.{bothEnds, both-ends}
 use Rattle.fit.specs.declared.Fit.{Fit}
 use Rattle.fit.specs.State.{Turns, Steps, machineOf}
@@ -129,10 +129,10 @@ module _ (m : Machine) where
 
 -- ---- along the direction to the chosen end
 
-pub headed-along : {t r : Fit} {a b d : List Float} → ((f : Float) → view b (t .shape .n) ≡ headed (t .shape .n) f (view a (t .shape .n)))
+pub directed-along : {t r : Fit} {a b d : List Float} → ((f : Float) → view b (t .shape .n) ≡ directed (t .shape .n) f (view a (t .shape .n)))
     → Steps searchAlong t b r d → Steps (towards (endsIn (view a (t .shape .n)))) t a r d
 unfolding towards
-headed-along {t} h k =
+directed-along {t} h k =
     let l : Direction < firstPair = omega arith in
     steps-at k (h (t .value)) (saved-upd Direction _ (omega arith) (λ e. omega arith) saved-refl) (rw pairs-kept)
 

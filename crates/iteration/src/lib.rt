@@ -34,10 +34,10 @@ fn model(area: &mut [f64], h: Shape, theta: f64) -> bool
 
 // Along the direction to the end chosen.
 fn towards(t: Fit, area: &mut [f64]) -> Fit
-    requires { ⌜ Sound (t .shape) (length (now area)) ⌝ }
+    requires { ⌜ Sound (t .shape) (length (now area)) × (t .shape .n ≤ mostCoordinates) ⌝ }
     ensures { λ r. ⌜ Steps (towardsOf (endsIn (view (now (area .entry)) (t .shape .n)))) t (now (area .entry)) r (now (area .exit)) ⌝ }
 {
-    subspace::head(area, t.shape.n);
+    subspace::set_direction(area, t.shape.n);
     trial::search_along(t, area)
 }
 
