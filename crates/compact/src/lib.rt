@@ -28,7 +28,7 @@ pub struct Updated {
 }
 
 // The place i of a ring of m, where i is below 2 m.
-pub fn wrapped(m: usize, i: usize) -> usize
+fn wrapped(m: usize, i: usize) -> usize
     ensures { λ r. ⌜ r ≡ wrap m i ⌝ }
 {
     if i < m { i } else { i - m }

@@ -1,17 +1,14 @@
--- Laws of floats and their words that the proofs of this crate cite: the test for a NaN, the words of NaNs and of magnitudes, the highest word; and one for callers of `dot`. Assumes nothing.
-use Prim.Native.Nat.{ℕ, zero, suc, _+_, _*_, _%_, _<_, _≤_, min}
+-- Laws of floats and their words that the proofs of this crate cite: the test for a NaN, the words of NaNs and of magnitudes, the highest word. Assumes nothing.
+use Prim.Native.Nat.{ℕ, zero, suc, _+_, _*_, _%_, _<_, _≤_}
 use native.Mathlib.Omega.{arith}
 use mathlib.Core.Path.{_≡_, refl, sym, ap, _∙_, subst}
 use mathlib.Core.Bool.{Bool, true, false, not}
-use mathlib.Core.List.{List}
 use borrow.Author.Tests.{eq-eqb, lt-ltb, le-ltb, ltb-false}
 use lib.IntN.{ℤ}
-use lib.ListN.{length}
 use lib.Dec.{T}
 use lib.Ieee.{Float, nan, inf, fin, binary64, up, down, ne, isNan, fits, nanBits, toBits}
 use lib.Ieee.Bits.{nanBits-is, nanBits-above, toBits-lt, ofBits-toBits}
 use Rattle.definition.specs.Number.{toFloat, toWord, signBit, abs}
-use Rattle.definition.specs.Vector.{dot}
 
 -- ---- the test for a NaN
 
@@ -86,8 +83,3 @@ unfolding isNan toBits
 word-most nan h = omega arith
 word-most (inf s) h = number-word-most (inf s) h refl
 word-most (fin s m e) h = number-word-most (fin s m e) h refl
-
--- ---- `dot` of slices of n words
-
-pub dot-whole : (n : ℕ) (a b : List Float) → length a ≡ n → length b ≡ n → dot (min (length a) (length b)) a b ≡ dot n a b
-dot-whole n a b p q = let e : min (length a) (length b) ≡ n = omega arith in rw e
