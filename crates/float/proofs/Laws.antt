@@ -8,7 +8,7 @@ use lib.IntN.{ℤ}
 use lib.Dec.{T}
 use lib.Ieee.{Float, nan, inf, fin, binary64, up, down, ne, isNan, fits, nanBits, toBits}
 use lib.Ieee.Bits.{nanBits-is, nanBits-above, toBits-lt, ofBits-toBits}
-use Rattle.definition.specs.Number.{toFloat, toWord, signBit, abs}
+use Rattle.definition.specs.Number.{toFloat, toWord, signBit, infinityWord, negInfinityWord, abs}
 
 -- ---- the test for a NaN
 
@@ -34,10 +34,10 @@ not-nan-of-eq x h = subst (λ (t : Bool). T (not t)) (sym h ∙ ne-self x) tt
 
 -- ---- words
 
-pub nan-of-word : (w : ℕ) → 0x7FF0_0000_0000_0000 < w % signBit → toFloat w ≡ nan
+pub nan-of-word : (w : ℕ) → infinityWord < w % signBit → toFloat w ≡ nan
 nan-of-word w h = is-nan (toFloat w) (sym (nanBits-is binary64 w) ∙ nanBits-above binary64 w ∙ lt-ltb _ _ h)
 
-pub not-nan-of-word : (w : ℕ) → w % signBit ≤ 0x7FF0_0000_0000_0000 → T (not (nanBits binary64 w))
+pub not-nan-of-word : (w : ℕ) → w % signBit ≤ infinityWord → T (not (nanBits binary64 w))
 not-nan-of-word w h = subst (λ (t : Bool). T (not t)) (sym (nanBits-above binary64 w ∙ le-ltb _ _ h)) tt
 
 -- Without its sign's bit a word is that of the magnitude.
@@ -71,14 +71,14 @@ pub abs-of-word : (x : Float) → fits binary64 x ≡ true → toFloat (toWord x
 abs-of-word x h = let f = subst T (sym h) tt in rw (word-of-abs x f) (ofBits-toBits binary64 (abs x) (abs-fits x f))
 
 -- No word is above the negative infinity's.
-number-word-most : (x : Float) → fits binary64 x ≡ true → isNan x ≡ false → toWord x ≤ 0xFFF0_0000_0000_0000
+number-word-most : (x : Float) → fits binary64 x ≡ true → isNan x ≡ false → toWord x ≤ negInfinityWord
 number-word-most x h k =
     let f = subst T (sym h) tt in
     let e : isNan (toFloat (toWord x)) ≡ false = ap isNan (ofBits-toBits binary64 x f) ∙ k in
-    let l : toWord x % signBit ≤ 0x7FF0_0000_0000_0000 = ltb-false _ _ (sym (nanBits-above binary64 (toWord x)) ∙ nanBits-is binary64 (toWord x) ∙ e) in
+    let l : toWord x % signBit ≤ infinityWord = ltb-false _ _ (sym (nanBits-above binary64 (toWord x)) ∙ nanBits-is binary64 (toWord x) ∙ e) in
     omega (arith, toBits-lt binary64 x f)
 
-pub word-most : (x : Float) → fits binary64 x ≡ true → toWord x ≤ 0xFFF0_0000_0000_0000
+pub word-most : (x : Float) → fits binary64 x ≡ true → toWord x ≤ negInfinityWord
 unfolding isNan toBits
 word-most nan h = omega arith
 word-most (inf s) h = number-word-most (inf s) h refl

@@ -6,7 +6,8 @@ use mathlib.Core.Option.{Option, none, some}
 use Prim.Native.Nat.{ℕ, _<_}
 use native.Mathlib.Omega.{arith}
 use borrow.Author.Tests.{ne-eqb}
-use lib.Ieee.{Float, binary64, ofBits}
+use lib.Ieee.{Float, ofBits}
+use Rattle.definition.specs.Number.{toFloat}
 use Rattle.definition.specs.Vector.{tab, _andThen_}
 use Rattle.definition.specs.Problem.{Bounds, Terms}
 use Rattle.definition.specs.Geometry.{generalizedCauchy, primalMinimize}
@@ -14,6 +15,7 @@ use Rattle.definition.specs.Compact.{Compact, noPairs, count}
 use Rattle.definition.specs.Counters.{Termination}
 use Rattle.definition.specs.Machine.{State, Machine, state, withCompact, ending}
 use Rattle.definition.specs.Driver.{Ends, endsFrom, endsOf, searchAlong, towards, withoutPairs, descend, gradientSmall, iterate}
+use Rattle.float.proofs.Constants.{oneWord}
 use Rattle.area.specs.Area.{Vecs, view, firstPair, ScratchOnly, given, X, G, Lower, Upper, Direction, Cauchy}
 use Rattle.area.proofs.Laws.{saved-refl, saved-upd}
 use Rattle.compact.specs.declared.Shape.{Shape}
@@ -173,7 +175,7 @@ descend-again {t} {a = a} {b = b} s o e z h =
 -- ---- the pairs dropped
 
 abbrev one : Float
-one = ofBits binary64 0x3FF0_0000_0000_0000
+one = toFloat oneWord
 
 abbrev dropped : Shape → Shape
 dropped h = record { n = h .n; m = h .m; pairs = 0; oldest = 0 }
