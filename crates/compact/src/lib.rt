@@ -60,8 +60,8 @@ pub fn pair_slot(area: &[f64], h: Shape, k: usize) -> usize
 
 // ---- update
 
-// A pair's curvature, and the theta that it gives, are fit to be kept.
-fn worth(sy: f64, yy: f64) -> bool
+// Whether a pair is acceptable: sy and yy are finite, the curvature is enough, and theta is finite and positive.
+fn acceptable(sy: f64, yy: f64) -> bool
     ensures { λ r. ⌜ r ≡ (curvedOf sy yy && usableOf (over yy sy)) ⌝ }
 {
     if !float::is_finite(sy) {
@@ -112,7 +112,7 @@ pub fn update(area: &mut [f64], h: Shape, theta: f64) -> Updated
 {
     let sy = area::dot(area, h.n, area::VELOCITY, area::DISPLACEMENT);
     let yy = area::dot(area, h.n, area::DISPLACEMENT, area::DISPLACEMENT);
-    if worth(sy, yy) {
+    if acceptable(sy, yy) {
         let next = yy / sy;
         let g = push(area, h, theta, next);
         return Updated {

@@ -6,7 +6,7 @@ use Rattle.cauchy.proofs.begin_path.Statement.{statement}
 use Rattle.cauchy.proofs.begin_path.Tie as tie
 
 returns : tie.Need-returns
-returns c = rw zero-is (begins _ _ (c .before .before .before .before .before .before .before .before .before .before .before .set-off .ensures) (rw zero-is at (c .before .before .before .before .before .before .before .fill .ensures)) (c .before .before .before .no-bound .ensures) (c .before .before .fill2 .ensures))
+returns c = rw zero-is (begins _ _ (c .before .before .before .before .before .before .before .before .before .before .before .set-velocity .ensures) (rw zero-is at (c .before .before .before .before .before .before .before .fill .ensures)) (c .before .before .before .no-bound .ensures) (c .before .before .fill2 .ensures))
 
 pub begin-path-spec : {M : Type 1} → statement M
 begin-path-spec =
