@@ -6,7 +6,8 @@ use lib.Dec.{ltb}
 use lib.IntN.{negsuc}
 use lib.Ieee.{fin, isNan, round, mul, sub, ofBits, toBits}
 use lib.Ieee.Exact.{HasValue}
-use Rattle.definition.specs.Number.{minus, times, nextUp, zero64, one64, twoToMinus, epsilon, rootEpsilon, cubeRootDigits, cubeRootEpsilon, pivotThreshold}
+use Rattle.definition.specs.Number.{minus, times, nextUp, zero64, one64, twoToMinus}
+use Rattle.definition.specs.Number.{epsilon, rootEpsilon, cubeRootDigits, cubeRootEpsilon, pivotThreshold}
 
 -- up from 1 and from 0
 pub nextUp-one : nextUp one64 ≡ fin false (2 ^ 52 + 1) (negsuc 51)

@@ -1,4 +1,4 @@
--- Laws of floats and their words that the proofs of this crate cite: the test for a NaN, the words of NaNs and of magnitudes, the highest word. Assumes nothing.
+-- Laws of floats and their words that this crate's proofs cite: the test for a NaN, the words of NaNs and of magnitudes, the highest word. Assumes nothing.
 use Prim.Native.Nat.{ℕ, zero, suc, _+_, _*_, _%_, _<_, _≤_}
 use native.Mathlib.Omega.{arith}
 use mathlib.Core.Path.{_≡_, refl, sym, ap, _∙_, subst}

@@ -9,7 +9,8 @@ returns : tie.Need-returns
 returns c = pair-taken (c .before .before .before .before .before .before .before .before .dot .ensures) (c .before .before .before .before .before .before .dot2 .ensures) (sym (c .before .before .before .before .before .acceptable .ensures) ∙ c .before .before .before .before .if1 .taken) (c .before .before .push .ensures)
 
 returns-2 : tie.Need-returns-2
-returns-2 c = pair-refused (c .before .before .before .before .dot .ensures) (c .before .before .dot2 .ensures) (sym (c .before .acceptable .ensures) ∙ c .if1 .left)
+returns-2 c =
+    pair-refused (c .before .before .before .before .dot .ensures) (c .before .before .dot2 .ensures) (sym (c .before .acceptable .ensures) ∙ c .if1 .left)
 
 pub update-spec : {M : Type 1} → statement M
 update-spec =
