@@ -30,7 +30,8 @@ pub const DIRECTION: usize = 7;
 
 // Vector 8. The path's direction is written by `cauchy::begin_path` and `cauchy::stop`, and read last by the segment that ends the
 // path. The step is written behind that, by `subspace::steps`; `subspace::moved` reads word i of it last and puts word i of the
-// target in its place, which `subspace::head` reads. (`judge::learn` puts the difference of the points here, for `compact::update`.)
+// target in its place, which `subspace::set_direction` reads. (`judge::learn` puts the difference of the points here, for
+// `compact::update`.)
 pub const VELOCITY: usize = 8;
 
 pub const STEP: usize = 8;

@@ -229,8 +229,8 @@ fn no_bound() -> f64
     0.0 / 0.0
 }
 
-// Every coordinate takes its direction.
-fn set_off(area: &mut [f64], n: usize)
+// The direction of every coordinate, in its vector.
+fn set_velocity(area: &mut [f64], n: usize)
     requires { ⌜ firstPair * n ≤ length (now area) ⌝ }
     ensures { λ _. ⌜ view (now (area .exit)) n ≡ rowwise n Velocity (λ i w. velocityIn w) (view (now (area .entry)) n) ⌝ }
 {
@@ -247,7 +247,7 @@ fn begin_path(area: &mut [f64], n: usize) -> Path
     requires { ⌜ firstPair * n ≤ length (now area) ⌝ }
     ensures { λ r. ⌜ Begins n (view (now (area .entry)) n) r (view (now (area .exit)) n) ⌝ }
 {
-    set_off(area, n);
+    set_velocity(area, n);
     area::fill(area, n, area::DISPLACEMENT, 0.0);
     area::fill(area, n, area::ACTIVE, no_bound());
     Path {

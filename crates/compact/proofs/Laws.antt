@@ -77,7 +77,7 @@ given-is false v = refl
 
 -- ---- an array of 32 places that a loop fills from the front
 
-set-pad : {A : Type 0} (i d : ℕ) (f : ℕ → A) (z : A) → set (tab i f ++ replicate (suc d) z) i (f i) ≡ tab (suc i) f ++ replicate d z
+pub set-pad : {A : Type 0} (i d : ℕ) (f : ℕ → A) (z : A) → set (tab i f ++ replicate (suc d) z) i (f i) ≡ tab (suc i) f ++ replicate d z
 unfolding tab
 set-pad zero d f z = refl
 set-pad (suc i) d f z = ap (λ l. f zero ∷ l) (set-pad i d (λ (k : ℕ). f (suc k)) z)

@@ -28,7 +28,7 @@ pub struct Updated {
 }
 
 // The place i of a ring of m, where i is below 2 m.
-pub fn wrapped(m: usize, i: usize) -> usize
+fn wrapped(m: usize, i: usize) -> usize
     ensures { λ r. ⌜ r ≡ wrap m i ⌝ }
 {
     if i < m { i } else { i - m }
@@ -60,8 +60,8 @@ pub fn pair_slot(area: &[f64], h: Shape, k: usize) -> usize
 
 // ---- update
 
-// A pair's curvature, and the theta that it gives, are fit to be kept.
-fn worth(sy: f64, yy: f64) -> bool
+// Whether a pair is acceptable: sy and yy are finite, the curvature is enough, and theta is finite and positive.
+fn acceptable(sy: f64, yy: f64) -> bool
     ensures { λ r. ⌜ r ≡ (curvedOf sy yy && usableOf (over yy sy)) ⌝ }
 {
     if !float::is_finite(sy) {
@@ -113,7 +113,7 @@ pub fn update(area: &mut [f64], h: Shape, theta: f64) -> Updated
 {
     let sy = area::dot(area, h.n, area::VELOCITY, area::DISPLACEMENT);
     let yy = area::dot(area, h.n, area::DISPLACEMENT, area::DISPLACEMENT);
-    if worth(sy, yy) {
+    if acceptable(sy, yy) {
         let next = yy / sy;
         let g = push(area, h, theta, next);
         return Updated {

@@ -1,5 +1,5 @@
 -- The definition's counters and terminations, read off the structs of the code.
-use Prim.Native.Nat.{ℕ}
+use Prim.Native.Nat.{ℕ, _^_}
 use mathlib.Core.Bool.{Bool, cond}
 use mathlib.Core.Option.{Option, none, some}
 use Rattle.definition.specs.Problem as P
@@ -26,7 +26,7 @@ terminationOf ObjectiveFailed = C.Termination.objectiveFailed
 
 -- no count is near where a sum would wrap
 abbrev pub mostCounted : ℕ
-mostCounted = 0x4000_0000_0000_0000
+mostCounted = 2 ^ 62
 
 -- ---- a value question, charged only while the budget lasts
 

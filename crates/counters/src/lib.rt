@@ -113,7 +113,7 @@ pub fn iterations_spent(l: Limits, k: Counters) -> bool
 }
 
 // `Counters::value`: charges a value question and says so, or says that the budget is spent and charges nothing.
-pub fn value(l: Limits, k: &mut Counters) -> bool
+fn value(l: Limits, k: &mut Counters) -> bool
     ensures { λ r. ⌜ (countersOf (now (k .exit)) ≡ valueCharged (limitsOf l) (countersOf (now (k .entry))))
         × (r ≡ valueLeft (limitsOf l) (countersOf (now (k .entry)))) ⌝ }
 {
@@ -124,7 +124,7 @@ pub fn value(l: Limits, k: &mut Counters) -> bool
 }
 
 // `Counters::charge_gradient`
-pub fn gradient(k: &mut Counters)
+fn gradient(k: &mut Counters)
     requires { ⌜ now k .njev < mostCounted ⌝ }
     ensures { λ _. ⌜ countersOf (now (k .exit)) ≡ chargeGradientOf (countersOf (now (k .entry))) ⌝ }
 {
@@ -132,7 +132,7 @@ pub fn gradient(k: &mut Counters)
 }
 
 // The count of `Counters::end_iteration`
-pub fn iteration(k: &mut Counters)
+fn iteration(k: &mut Counters)
     requires { ⌜ now k .nit < mostCounted ⌝ }
     ensures { λ _. ⌜ countersOf (now (k .exit)) ≡ chargeIterationOf (countersOf (now (k .entry))) ⌝ }
 {

@@ -3,17 +3,18 @@ use Prim.Native.Nat.{_+_, _-_, _*_, _^_}
 use mathlib.Core.Path.{_≡_, refl}
 use mathlib.Core.Bool.{true, false, _&&_}
 use lib.Dec.{ltb}
-use lib.IntN.{pos, negsuc}
+use lib.IntN.{negsuc}
 use lib.Ieee.{fin, isNan, round, mul, sub, ofBits, toBits}
 use lib.Ieee.Exact.{HasValue}
-use Rattle.definition.specs.Number.{minus, times, nextUp, zero64, one64, epsilon, rootEpsilon, cubeRootDigits, cubeRootEpsilon, pivotThreshold}
+use Rattle.definition.specs.Number.{minus, times, nextUp, zero64, one64, twoToMinus}
+use Rattle.definition.specs.Number.{epsilon, rootEpsilon, cubeRootDigits, cubeRootEpsilon, pivotThreshold}
 
 -- up from 1 and from 0
 pub nextUp-one : nextUp one64 ≡ fin false (2 ^ 52 + 1) (negsuc 51)
 unfolding isNan ofBits toBits
 nextUp-one = refl
 
-pub nextUp-zero : nextUp zero64 ≡ fin false 1 (negsuc 1073)
+pub nextUp-zero : nextUp zero64 ≡ twoToMinus 1074
 unfolding isNan ofBits toBits
 nextUp-zero = refl
 
@@ -38,6 +39,7 @@ pub cube-root-nearest :
 unfolding round
 cube-root-nearest = (refl, refl, refl)
 
-pub pivot-threshold-product : times (fin false 1 (pos 6)) epsilon ≡ pivotThreshold
+-- 64 times 2 ^ -52 is 2 ^ -46: the product is exact
+pub pivot-threshold-exact : pivotThreshold ≡ twoToMinus 46
 unfolding mul round
-pivot-threshold-product = refl
+pivot-threshold-exact = refl

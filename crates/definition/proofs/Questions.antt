@@ -9,7 +9,7 @@ use lib.Dec.{T}
 use lib.Ieee.{Float, binary64, fits, le}
 use lib.Ieee.Bits.{ofBits-fits}
 use lib.Ieee.Scale.{finite}
-use Rattle.definition.specs.Number.{minus, toFloat}
+use Rattle.definition.specs.Number.{minus, toFloat, mostStep}
 use Rattle.definition.specs.Vector.{word, difference}
 use Rattle.definition.specs.Problem.{Setup, Terms, termsOf}
 use Rattle.definition.specs.Gradient.{probesAt}
@@ -114,7 +114,7 @@ module _ (s : Setup) (ordered : BoundsOrdered (termsOf s)) (b : Machine) where
   aimed : (m : Machine) (r : Search) → PlacedOf s m → Low (m .held .f) → Line (m .terms) (m .held) (m .direction) r → Aimed (aiming r m)
   aimed m r p l k =
       let ordered-here = subst BoundsOrdered (sym (p .terms)) ordered in
-      let alpha = at-most-finite 10_000_000_000 (r .alpha) (k .search .alpha) in
+      let alpha = at-most-finite mostStep (r .alpha) (k .search .alpha) in
       let trial = line-in-box (m .terms) (m .held .x) (m .direction) (r .alpha) ordered-here (k .point) (k .direction) alpha in
       (record { terms = p .terms; held = p .held; trial = trial }, l, k)
 

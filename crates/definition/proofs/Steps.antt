@@ -1,6 +1,6 @@
 -- Steps of a search: finite, not negative, at most 10 ^ 10. What is not above a step, half the sum of
 -- two, and the smaller of an unsigned float and a step are steps. Assumes nothing.
-use Prim.Native.Nat.{ℕ, _+_, _*_, _≤_, _<_}
+use Prim.Native.Nat.{ℕ, _+_, _*_, _^_, _≤_, _<_}
 use native.Mathlib.Nat.{mul-le-mul-right, mul-pos}
 use native.Mathlib.Omega.{arith}
 use mathlib.Core.Path.{_≡_, refl, subst}
@@ -12,7 +12,7 @@ use lib.Ieee.Fits.{down-pos}
 use lib.Ieee.Order.{round-mono}
 use lib.Ieee.Positive.{through}
 use lib.Ieee.Scale.{finite}
-use Rattle.definition.specs.Number.{plus, times, min, half64}
+use Rattle.definition.specs.Number.{plus, times, min, half64, mostStep}
 use Rattle.definition.proofs.Order.{under-of-le, le-of-not-lt}
 use Rattle.definition.proofs.Sign.{unsigned, round-sign, sign-not-nan}
 use Rattle.definition.proofs.Finite.{finite-not-nan}
@@ -58,25 +58,25 @@ round-at-most c n d y e a h l =
 
 -- a step of the search: at most 10 ^ 10; halving the sum of two, or doubling one up to the limit, gives another
 abbrev pub Step : Float → Type 0
-Step x = AtMost 10_000_000_000 x
+Step x = AtMost mostStep x
 
-pub half-step : (x : Float) → AtMost 20_000_000_000 x → Step (times x half64)
+pub half-step : (x : Float) → AtMost (2 * mostStep) x → Step (times x half64)
 unfolding mul round
 half-step nan h = h
 half-step (inf s) h = absurd h
 half-step (fin true m e) h = absurd h
 half-step (fin false m e) h =
-    round-at-most 10_000_000_000 (m * up e * (1 * up (negsuc 0))) (down e * down (negsuc 0)) (fin false 9765625 (pos 10)) tenth (omega arith)
+    round-at-most mostStep (m * up e * (1 * up (negsuc 0))) (down e * down (negsuc 0)) (fin false (5 ^ 10) (pos 10)) tenth (omega arith)
     (mul-pos (down-pos e) (omega arith))
     (less (m * up e) (down e) h)
   where
-    tenth : round binary64 false 10_000_000_000 1 ≡ fin false 9765625 (pos 10)
+    tenth : round binary64 false mostStep 1 ≡ fin false (5 ^ 10) (pos 10)
     tenth = refl
 
-    less : (a b : ℕ) → a ≤ 20_000_000_000 * b → a * (1 * 1) ≤ 10_000_000_000 * (b * 2)
+    less : (a b : ℕ) → a ≤ 2 * mostStep * b → a * (1 * 1) ≤ mostStep * (b * 2)
     less a b k = omega arith
 
-pub sum-step : (x y : Float) → Step x → Step y → AtMost 20_000_000_000 (plus x y)
+pub sum-step : (x y : Float) → Step x → Step y → AtMost (2 * mostStep) (plus x y)
 unfolding add sum round
 sum-step nan y h k = absurd h
 sum-step (inf s) y h k = absurd h
@@ -85,14 +85,14 @@ sum-step (fin false m e) nan h k = k
 sum-step (fin false m e) (inf s) h k = absurd k
 sum-step (fin false m e) (fin true n d) h k = absurd k
 sum-step (fin false m e) (fin false n d) h k =
-    round-at-most 20_000_000_000 (m * up e * down d + n * up d * down e) (down e * down d) (fin false 9765625 (pos 11)) twentieth (omega arith)
+    round-at-most (2 * mostStep) (m * up e * down d + n * up d * down e) (down e * down d) (fin false (5 ^ 10) (pos 11)) twentieth (omega arith)
     (mul-pos (down-pos e) (down-pos d))
     (both (m * up e) (n * up d) (down e) (down d) h k)
   where
-    twentieth : round binary64 false 20_000_000_000 1 ≡ fin false 9765625 (pos 11)
+    twentieth : round binary64 false (2 * mostStep) 1 ≡ fin false (5 ^ 10) (pos 11)
     twentieth = refl
 
-    both : (a b p q : ℕ) → a ≤ 10_000_000_000 * p → b ≤ 10_000_000_000 * q → a * q + b * p ≤ 20_000_000_000 * (p * q)
+    both : (a b p q : ℕ) → a ≤ mostStep * p → b ≤ mostStep * q → a * q + b * p ≤ 2 * mostStep * (p * q)
     both a b p q h k = omega (arith, mul-le-mul-right q h, mul-le-mul-right p k)
 
 pub min-step : (x y : Float) → T (unsigned x) → Step y → Step (min x y)
@@ -101,4 +101,4 @@ min-step x y u k = go (isNan x) (lt y x) refl
     go : (t v : Bool) → lt y x ≡ v → Step (cond t y (cond v y x))
     go true v e = k
     go false true e = k
-    go false false e = le-at-most 10_000_000_000 x y u k (le-of-not-lt y x (finite-not-nan y (at-most-finite 10_000_000_000 y k)) (sign-not-nan false x u) e)
+    go false false e = le-at-most mostStep x y u k (le-of-not-lt y x (finite-not-nan y (at-most-finite mostStep y k)) (sign-not-nan false x u) e)

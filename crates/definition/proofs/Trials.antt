@@ -1,6 +1,6 @@
 -- The step search: its steps are positive and at most 10 ^ 10, its slope is negative and its direction finite,
 -- and a trial that it accepts is not above the value held. Assumes nothing.
-use Prim.Native.Nat.{ℕ, zero, suc}
+use Prim.Native.Nat.{ℕ, zero, suc, _^_}
 use native.Mathlib.Omega.{arith}
 use mathlib.Core.Path.{_≡_, refl, subst}
 use mathlib.Core.Bool.{Bool, true, false, not, cond, _&&_, _||_}
@@ -12,7 +12,7 @@ use lib.Dec.{T, leb}
 use lib.Ieee.{Float, nan, inf, fin, binary64, fits, lt, eq, le, isNan, round}
 use lib.Ieee.Fits.{and-l, and-r}
 use lib.Ieee.Scale.{finite}
-use Rattle.definition.specs.Number.{plus, times, min, zero64, one64, two64, stepLimit}
+use Rattle.definition.specs.Number.{plus, times, min, zero64, one64, two64, mostStep, stepLimit}
 use Rattle.definition.specs.Vector.{foldTo, dot}
 use Rattle.definition.specs.Problem.{Bounds}
 use Rattle.definition.specs.Search.{Search, searchTrials, Limit, distance, limitOf, firstSearch, withLimit, beginSearch, decreases}
@@ -37,7 +37,7 @@ unfolding round
 step-le-limit nan h = absurd h
 step-le-limit (inf s) h = absurd h
 step-le-limit (fin true m e) h = absurd h
-step-le-limit (fin false m e) h = le-of-under false m e false 9765625 (pos 10) (omega arith)
+step-le-limit (fin false m e) h = le-of-under false m e false (5 ^ 10) (pos 10) (omega arith)
 
 zero-le-step : (x : Float) → Step x → T (le zero64 x)
 zero-le-step nan h = absurd h
@@ -46,7 +46,7 @@ zero-le-step (fin true m e) h = absurd h
 zero-le-step (fin false m e) h = le-of-under false 0 (pos 0) false m e (omega arith)
 
 step-not-nan : (x : Float) → Step x → NotNan x
-step-not-nan x h = finite-not-nan x (at-most-finite 10_000_000_000 x h)
+step-not-nan x h = finite-not-nan x (at-most-finite mostStep x h)
 
 step-positive : (x : Float) → Step x → eq x zero64 ≡ false → T (lt zero64 x)
 unfolding isNan
@@ -64,8 +64,8 @@ min-positive x y p q = by-test P (isNan x) (λ _. q) (λ _. by-test P (lt y x) (
 
 twice-unsigned : (x : Float) → Step x → T (unsigned (times x two64))
 unfolding isNan
-twice-unsigned x h = elim (times-sign false false x two64 (at-most-unsigned 10_000_000_000 x h) tt)
-    [ inl e ↦ absurd (rw e at (times-not-nan x two64 (at-most-finite 10_000_000_000 x h) tt)) | inr u ↦ u ]
+twice-unsigned x h = elim (times-sign false false x two64 (at-most-unsigned mostStep x h) tt)
+    [ inl e ↦ absurd (rw e at (times-not-nan x two64 (at-most-finite mostStep x h) tt)) | inr u ↦ u ]
 
 -- ---- a search
 
@@ -107,7 +107,7 @@ begun-running n b x g d r e =
     let whole = and-l (finite slope) (lt slope zero64) (p .0) in
     let down = and-r (finite slope) (lt slope zero64) (p .0) in
     let up = and-r (finite (l .amax)) (lt zero64 (l .amax)) (q .0) in
-    let a : Step (l .amax) = le-at-most 10_000_000_000 (l .amax) stepLimit (unsigned-of-lt (l .amax) up) limit-step (limit-low n b x d) in
+    let a : Step (l .amax) = le-at-most mostStep (l .amax) stepLimit (unsigned-of-lt (l .amax) up) limit-step (limit-low n b x d) in
     let first : Running (firstSearch slope l) = record {
       alpha = min-step one64 (l .amax) tt a;
       positive = min-positive one64 (l .amax) tt up;
@@ -157,4 +157,4 @@ module _ (r : Search) (f v slope : Float) (h : Running r) where
   unfolding accepts
   accepted-not-above p q e =
       let decreased = both-hold (decreases r f v) (flat r slope || onFace r f v) e .0 in
-      trial-not-above v f (r .alpha) (r .slope0) p q (at-most-unsigned 10_000_000_000 (r .alpha) (h .alpha)) (h .slope) decreased
+      trial-not-above v f (r .alpha) (r .slope0) p q (at-most-unsigned mostStep (r .alpha) (h .alpha)) (h .slope) decreased

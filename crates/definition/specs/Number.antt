@@ -2,7 +2,7 @@
 use Prim.Native.Nat.{ℕ, _+_, _-_, _%_, _^_}
 use mathlib.Core.Bool.{Bool, true, false, cond}
 use lib.Dec.{eqb, ltb, leb}
-use lib.IntN.{pos, negsuc}
+use lib.IntN.{pos, negℤ}
 use lib.Ieee as Ieee
 use lib.Ieee.{Float, nan, inf, fin, binary64, isNan, ofBits, toBits, round}
 
@@ -44,6 +44,13 @@ toWord x = toBits binary64 x
 abbrev pub signBit : ℕ
 signBit = 0x8000_0000_0000_0000
 
+-- the words of the infinities; above either, up to the sign's bit, stand the words of NaNs
+abbrev pub infinityWord : ℕ
+infinityWord = 0x7FF0_0000_0000_0000
+
+abbrev pub negInfinityWord : ℕ
+negInfinityWord = signBit + infinityWord
+
 -- `total_cmp`: a negative pattern counts down, a positive one up.
 abbrev pub totalKey : Float → ℕ
 totalKey x = cond (ltb (toWord x) signBit) (toWord x + signBit) (0xFFFF_FFFF_FFFF_FFFF - toWord x)
@@ -58,10 +65,10 @@ magnitudeLe a b = leb (toWord (abs a)) (toWord (abs b))
 
 -- An infinity stays; either zero goes to the least value above zero; a positive pattern counts up, a negative one down.
 abbrev pub upBits : ℕ → ℕ
-upBits b = cond (eqb b 0x7FF0_0000_0000_0000) b (cond (eqb (b % signBit) 0) 1 (cond (ltb b signBit) (b + 1) (b - 1)))
+upBits b = cond (eqb b infinityWord) b (cond (eqb (b % signBit) 0) 1 (cond (ltb b signBit) (b + 1) (b - 1)))
 
 abbrev pub downBits : ℕ → ℕ
-downBits b = cond (eqb b 0xFFF0_0000_0000_0000) b (cond (eqb (b % signBit) 0) (signBit + 1) (cond (ltb b signBit) (b - 1) (b + 1)))
+downBits b = cond (eqb b negInfinityWord) b (cond (eqb (b % signBit) 0) (signBit + 1) (cond (ltb b signBit) (b - 1) (b + 1)))
 
 abbrev pub nextUp : Float → Float
 nextUp x = cond (isNan x) x (toFloat (upBits (toWord x)))
@@ -71,6 +78,13 @@ nextDown x = cond (isNan x) x (toFloat (downBits (toWord x)))
 
 -- ---- constants
 
+-- 2 ^ k and 2 ^ -k
+abbrev pub twoTo : ℕ → Float
+twoTo k = fin false 1 (pos k)
+
+abbrev pub twoToMinus : ℕ → Float
+twoToMinus k = fin false 1 (negℤ (pos k))
+
 abbrev pub zero64 : Float
 zero64 = fin false 0 (pos 0)
 
@@ -79,13 +93,13 @@ abbrev pub negZero : Float
 negZero = fin true 0 (pos 0)
 
 abbrev pub one64 : Float
-one64 = fin false 1 (pos 0)
+one64 = twoTo 0
 
 abbrev pub two64 : Float
-two64 = fin false 1 (pos 1)
+two64 = twoTo 1
 
 abbrev pub half64 : Float
-half64 = fin false 1 (negsuc 0)
+half64 = twoToMinus 1
 
 abbrev pub infinity : Float
 infinity = inf false
@@ -93,13 +107,13 @@ infinity = inf false
 abbrev pub negInfinity : Float
 negInfinity = inf true
 
--- `EPSILON`, 2 ^ -52
+-- `EPSILON`
 abbrev pub epsilon : Float
-epsilon = fin false 1 (negsuc 51)
+epsilon = twoToMinus 52
 
--- its square root, 2 ^ -26
+-- its square root
 abbrev pub rootEpsilon : Float
-rootEpsilon = fin false 1 (negsuc 25)
+rootEpsilon = twoToMinus 26
 
 -- The double nearest to its cube root, 2 ^ -18 times the cube root of 4: this many of 2 ^ -70.
 abbrev pub cubeRootDigits : ℕ
@@ -108,9 +122,9 @@ cubeRootDigits = 7149018786131517
 abbrev pub cubeRootEpsilon : Float
 cubeRootEpsilon = round binary64 false cubeRootDigits (2 ^ 70)
 
--- 64 times `EPSILON`: what a pivot must exceed, in units of the matrix's scale
+-- 64 times `EPSILON`, exactly: what a pivot must exceed, in units of the matrix's scale
 abbrev pub pivotThreshold : Float
-pivotThreshold = fin false 1 (negsuc 45)
+pivotThreshold = times (twoTo 6) epsilon
 
 -- `DEFAULT_FTOL`, 1e-9, and `DEFAULT_GTOL`, 1e-5
 abbrev pub defaultFtol : Float
@@ -126,6 +140,9 @@ c1 = round binary64 false 1 (10 ^ 4)
 abbrev pub c2 : Float
 c2 = round binary64 false 9 10
 
--- where the step limit starts, 1e10
+-- where the step limit starts
+abbrev pub mostStep : ℕ
+mostStep = 10 ^ 10
+
 abbrev pub stepLimit : Float
-stepLimit = round binary64 false (10 ^ 10) 1
+stepLimit = round binary64 false mostStep 1

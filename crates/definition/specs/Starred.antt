@@ -5,10 +5,10 @@ use mathlib.Core.Path.{_≡_}
 use mathlib.Core.Bool.{true, false}
 use mathlib.Core.List.{List, [], _∷_, map}
 use mathlib.Core.Option.{Option, none, some}
-use lib.IntN.{pos, negsuc}
+use lib.IntN.{pos}
 use lib.ListN.{replicate, drop}
 use lib.Ieee.{Float, nan, fin}
-use Rattle.definition.specs.Number.{zero64, one64, two64, infinity, negInfinity, toWord}
+use Rattle.definition.specs.Number.{twoTo, twoToMinus, zero64, one64, two64, infinity, negInfinity, toWord}
 use Rattle.definition.specs.Vector.{dot}
 use Rattle.definition.specs.Problem.{Setup, Bounds, Scheme, refuse, validate}
 use Rattle.definition.specs.Solve.{Matrix, pivotOf, solve}
@@ -48,13 +48,13 @@ abbrev pub boxed : Float → Float → Float → Setup
 boxed x l u = setup (x ∷ []) (between l u) none none
 
 abbrev pub four : Float
-four = fin false 1 (pos 2)
+four = twoTo 2
 
 abbrev pub five : Float
 five = fin false 5 (pos 0)
 
 abbrev pub eight : Float
-eight = fin false 1 (pos 3)
+eight = twoTo 3
 
 abbrev pub minusEight : Float
 minusEight = fin true 1 (pos 3)
@@ -105,19 +105,6 @@ rows a b c d = (a ∷ b ∷ []) ∷ (c ∷ d ∷ []) ∷ []
 abbrev pub diagonal : Float → Option (List Float)
 diagonal d = solve 2 (rows one64 zero64 zero64 d) (one64 ∷ one64 ∷ [])
 
--- 2 ^ -k
-abbrev pub half^46 : Float
-half^46 = fin false 1 (negsuc 45)
-
-abbrev pub half^45 : Float
-half^45 = fin false 1 (negsuc 44)
-
-abbrev pub half^52 : Float
-half^52 = fin false 1 (negsuc 51)
-
-abbrev pub half^51 : Float
-half^51 = fin false 1 (negsuc 50)
-
 -- no value but the first, 0, and no gradient supplied
 abbrev pub unsupplied : List Reply
 unsupplied = Reply.notSupplied ∷ Reply.value (toWord zero64) ∷ []
@@ -144,14 +131,14 @@ starred =
     ∷ (printed (recordBytes (book (frugal none) unsupplied)) ≡ Printed.lines (reported 4 0 1 0 zero64 five))
     ∷ (printed (recordBytes (book (frugal (between five five)) unsupplied)) ≡ Printed.lines (reported 1 0 1 1 zero64 five))
     -- s = 2 ^ -52, y = 1: pair dropped; s = 2 ^ -51: kept, theta 2 ^ 51
-    ∷ (onePair half^52 ≡ noPairs)
-    ∷ (onePair half^51 ≡ record { pairs = record { s = half^51 ∷ []; y = one64 ∷ [] } ∷ []; theta = fin false 1 (pos 51); oldest = 0 })
+    ∷ (onePair (twoToMinus 52) ≡ noPairs)
+    ∷ (onePair (twoToMinus 51) ≡ record { pairs = record { s = twoToMinus 51 ∷ []; y = one64 ∷ [] } ∷ []; theta = twoTo 51; oldest = 0 })
     -- rows (2, 1), (-2, 1), right side (0, 4): second row pivots, answer (-1, 2)
     ∷ (pivotOf 2 (rows two64 one64 minusTwo one64) 0 ≡ 1)
     ∷ (solve 2 (rows two64 one64 minusTwo one64) (zero64 ∷ four ∷ []) ≡ some (minusOne ∷ two64 ∷ []))
     -- diagonal 1 and 2 ^ -46: refused; 1 and 2 ^ -45: solved
-    ∷ (diagonal half^46 ≡ none)
-    ∷ (diagonal half^45 ≡ some (one64 ∷ fin false 1 (pos 45) ∷ []))
+    ∷ (diagonal (twoToMinus 46) ≡ none)
+    ∷ (diagonal (twoToMinus 45) ≡ some (one64 ∷ twoTo 45 ∷ []))
     ∷ []
 
 -- ---- orders: "Ways to draw the wrong seam", and the readings that rest on an order
@@ -171,7 +158,7 @@ orders =
     (printed (recordBytes (book parabola (drop 2 parabolaReplies))) ≡ Printed.lines (reported 0 0 2 1 eight four))
     ∷ (printed (recordBytes (book parabola (Reply.notSupplied ∷ drop 2 parabolaReplies))) ≡ Printed.lines (reported 0 0 3 1 eight four))
     -- a pair that is not accepted costs no old one
-    ∷ (update 1 1 fullMemory (half^52 ∷ []) (one64 ∷ []) ≡ fullMemory)
+    ∷ (update 1 1 fullMemory (twoToMinus 52 ∷ []) (one64 ∷ []) ≡ fullMemory)
     -- a sum starts at -0
     ∷ (dot 1 (zero64 ∷ []) (minusOne ∷ []) ≡ fin true 0 (pos 0))
     -- the iteration budget comes before convergence, and stop before both

@@ -1,7 +1,8 @@
 -- The numbers that code writes are those of the definition: each decimal is read as the double nearest to what is meant. Assumes nothing.
 -- A constant or a literal stands in a goal by its word; `rw` with the constant's law, or `simp constants`, puts the definition's name there.
+use Prim.Native.Nat.{ℕ}
 use mathlib.Core.Path.{_≡_, refl}
-use lib.Ieee.{ofBits, round}
+use lib.Ieee.{mul, ofBits, round}
 use Rattle.definition.specs.Number.{toFloat, zero64, negZero, one64, two64, half64}
 use Rattle.definition.specs.Number.{epsilon, rootEpsilon, cubeRootEpsilon, pivotThreshold, defaultFtol, defaultGtol, c1, c2, stepLimit}
 
@@ -13,7 +14,11 @@ pub neg-zero-is : toFloat 0x8000_0000_0000_0000 ≡ negZero
 unfolding ofBits
 neg-zero-is = refl
 
-pub one-is : toFloat 0x3ff0_0000_0000_0000 ≡ one64
+-- the word of 1
+abbrev pub oneWord : ℕ
+oneWord = 0x3ff0_0000_0000_0000
+
+pub one-is : toFloat oneWord ≡ one64
 unfolding ofBits
 one-is = refl
 
@@ -38,7 +43,7 @@ unfolding ofBits round
 cube-root-epsilon-is = refl
 
 pub pivot-threshold-is : toFloat 0x3d10_0000_0000_0000 ≡ pivotThreshold
-unfolding ofBits
+unfolding ofBits mul round
 pivot-threshold-is = refl
 
 pub default-ftol-is : toFloat 0x3e11_2e0b_e826_d695 ≡ defaultFtol

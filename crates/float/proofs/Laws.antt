@@ -1,18 +1,15 @@
 -- Laws of floats and their words that the proofs of this crate cite: the test for a NaN, the words of NaNs
--- and of magnitudes, the highest word; and one for callers of `dot`. Assumes nothing.
-use Prim.Native.Nat.{ℕ, zero, suc, _+_, _*_, _%_, _<_, _≤_, min}
+-- and of magnitudes, the highest word. Assumes nothing.
+use Prim.Native.Nat.{ℕ, zero, suc, _+_, _*_, _%_, _<_, _≤_}
 use native.Mathlib.Omega.{arith}
 use mathlib.Core.Path.{_≡_, refl, sym, ap, _∙_, subst}
 use mathlib.Core.Bool.{Bool, true, false, not}
-use mathlib.Core.List.{List}
 use borrow.Author.Tests.{eq-eqb, lt-ltb, le-ltb, ltb-false}
 use lib.IntN.{ℤ}
-use lib.ListN.{length}
 use lib.Dec.{T}
 use lib.Ieee.{Float, nan, inf, fin, binary64, up, down, ne, isNan, fits, nanBits, toBits}
 use lib.Ieee.Bits.{nanBits-is, nanBits-above, toBits-lt, ofBits-toBits}
-use Rattle.definition.specs.Number.{toFloat, toWord, signBit, abs}
-use Rattle.definition.specs.Vector.{dot}
+use Rattle.definition.specs.Number.{toFloat, toWord, signBit, infinityWord, negInfinityWord, abs}
 
 -- ---- the test for a NaN
 
@@ -38,10 +35,10 @@ not-nan-of-eq x h = subst (λ (t : Bool). T (not t)) (sym h ∙ ne-self x) tt
 
 -- ---- words
 
-pub nan-of-word : (w : ℕ) → 0x7FF0_0000_0000_0000 < w % signBit → toFloat w ≡ nan
+pub nan-of-word : (w : ℕ) → infinityWord < w % signBit → toFloat w ≡ nan
 nan-of-word w h = is-nan (toFloat w) (sym (nanBits-is binary64 w) ∙ nanBits-above binary64 w ∙ lt-ltb _ _ h)
 
-pub not-nan-of-word : (w : ℕ) → w % signBit ≤ 0x7FF0_0000_0000_0000 → T (not (nanBits binary64 w))
+pub not-nan-of-word : (w : ℕ) → w % signBit ≤ infinityWord → T (not (nanBits binary64 w))
 not-nan-of-word w h = subst (λ (t : Bool). T (not t)) (sym (nanBits-above binary64 w ∙ le-ltb _ _ h)) tt
 
 -- Without its sign's bit a word is that of the magnitude.
@@ -76,20 +73,15 @@ pub abs-of-word : (x : Float) → fits binary64 x ≡ true → toFloat (toWord x
 abs-of-word x h = let f = subst T (sym h) tt in rw (word-of-abs x f) (ofBits-toBits binary64 (abs x) (abs-fits x f))
 
 -- No word is above the negative infinity's.
-number-word-most : (x : Float) → fits binary64 x ≡ true → isNan x ≡ false → toWord x ≤ 0xFFF0_0000_0000_0000
+number-word-most : (x : Float) → fits binary64 x ≡ true → isNan x ≡ false → toWord x ≤ negInfinityWord
 number-word-most x h k =
     let f = subst T (sym h) tt in
     let e : isNan (toFloat (toWord x)) ≡ false = ap isNan (ofBits-toBits binary64 x f) ∙ k in
-    let l : toWord x % signBit ≤ 0x7FF0_0000_0000_0000 = ltb-false _ _ (sym (nanBits-above binary64 (toWord x)) ∙ nanBits-is binary64 (toWord x) ∙ e) in
+    let l : toWord x % signBit ≤ infinityWord = ltb-false _ _ (sym (nanBits-above binary64 (toWord x)) ∙ nanBits-is binary64 (toWord x) ∙ e) in
     omega (arith, toBits-lt binary64 x f)
 
-pub word-most : (x : Float) → fits binary64 x ≡ true → toWord x ≤ 0xFFF0_0000_0000_0000
+pub word-most : (x : Float) → fits binary64 x ≡ true → toWord x ≤ negInfinityWord
 unfolding isNan toBits
 word-most nan h = omega arith
 word-most (inf s) h = number-word-most (inf s) h refl
 word-most (fin s m e) h = number-word-most (fin s m e) h refl
-
--- ---- `dot` of slices of n words
-
-pub dot-whole : (n : ℕ) (a b : List Float) → length a ≡ n → length b ≡ n → dot (min (length a) (length b)) a b ≡ dot n a b
-dot-whole n a b p q = let e : min (length a) (length b) ≡ n = omega arith in rw e

@@ -1,12 +1,9 @@
-// The definition's numbers in code: words and floats, their order and neighbours, the sum of products, the constants.
+// The definition's numbers in code: words and floats, their order and neighbours, the constants.
 ghost use mathlib.Core.Path.{_≡_};
-ghost use Prim.Native.Nat.{min as lesser};
-ghost use lib.ListN.{length};
 ghost use lib.Ieee.{isNan};
 ghost use lib.Ieee.Scale.{finite};
-ghost use Rattle.definition.specs.Number.{toFloat, toWord, totalKey, totalLe, magnitudeLe, upBits, downBits, nextUp, nextDown, negInfinity};
+ghost use Rattle.definition.specs.Number.{toFloat, toWord, totalKey, totalLe, upBits, downBits, nextUp, nextDown, negInfinity};
 ghost use Rattle.definition.specs.Number.{infinity as infinityOf, abs as absOf, min as minOf, max as maxOf, clamp as clampOf};
-ghost use Rattle.definition.specs.Vector.{dot as dotOf};
 
 // Where a sum starts: added to any term it leaves the term as it is.
 pub const NEG_ZERO: f64 = -0.0;
@@ -192,24 +189,4 @@ pub fn total_le(a: f64, b: f64) -> bool
     ensures { λ r. ⌜ r ≡ totalLe a b ⌝ }
 {
     total_key(a) <= total_key(b)
-}
-
-// The order of magnitudes, in which a NaN is the largest.
-pub fn magnitude_le(a: f64, b: f64) -> bool
-    ensures { λ r. ⌜ r ≡ magnitudeLe a b ⌝ }
-{
-    float_to_word(abs(a)) <= float_to_word(abs(b))
-}
-
-// The sum of products, from the left and from -0.0, to the end of the shorter slice.
-pub fn dot(a: &[f64], b: &[f64]) -> f64
-    ensures { λ r. ⌜ r ≡ dotOf (lesser (length (now (a .entry))) (length (now (b .entry)))) (now (a .entry)) (now (b .entry)) ⌝ }
-{
-    let mut sum = NEG_ZERO;
-    let mut i = 0;
-    while i < a.len() && i < b.len() {
-        sum = sum + a[i] * b[i];
-        i += 1;
-    }
-    sum
 }

@@ -6,7 +6,8 @@ use mathlib.Core.Option.{Option, none, some}
 use Prim.Native.Nat.{ℕ, _<_}
 use native.Mathlib.Omega.{arith}
 use borrow.Author.Tests.{ne-eqb}
-use lib.Ieee.{Float, binary64, ofBits}
+use lib.Ieee.{Float, ofBits}
+use Rattle.definition.specs.Number.{toFloat}
 use Rattle.definition.specs.Vector.{tab, _andThen_}
 use Rattle.definition.specs.Problem.{Bounds, Terms}
 use Rattle.definition.specs.Geometry.{generalizedCauchy, primalMinimize}
@@ -14,13 +15,14 @@ use Rattle.definition.specs.Compact.{Compact, noPairs, count}
 use Rattle.definition.specs.Counters.{Termination}
 use Rattle.definition.specs.Machine.{State, Machine, state, withCompact, ending}
 use Rattle.definition.specs.Driver.{Ends, endsFrom, endsOf, searchAlong, towards, withoutPairs, descend, gradientSmall, iterate}
+use Rattle.float.proofs.Constants.{oneWord}
 use Rattle.area.specs.Area.{Vecs, view, firstPair, ScratchOnly, given, X, G, Lower, Upper, Direction, Cauchy}
 use Rattle.area.proofs.Laws.{saved-refl, saved-upd}
 use Rattle.compact.specs.declared.Shape.{Shape}
 use Rattle.compact.specs.State.{pairsOf, compactOf, Sound, PairsKept}
 use Rattle.compact.proofs.Laws.{pairs-count}
 use Rattle.cauchy.specs.State.{Points}
-use Rattle.subspace.specs.State.{boundsOf, minimumAt, Minimizes, endsIn, headed}
+use Rattle.subspace.specs.State.{boundsOf, minimumAt, Minimizes, endsIn, directed}
 use Rattle.subspace.proofs.Ends.{bothEnds, both-ends}
 use Rattle.fit.specs.declared.Fit.{Fit}
 use Rattle.fit.specs.State.{Turns, Steps, machineOf}
@@ -129,10 +131,10 @@ module _ (m : Machine) where
 
 -- ---- along the direction to the chosen end
 
-pub headed-along : {t r : Fit} {a b d : List Float} → ((f : Float) → view b (t .shape .n) ≡ headed (t .shape .n) f (view a (t .shape .n)))
+pub directed-along : {t r : Fit} {a b d : List Float} → ((f : Float) → view b (t .shape .n) ≡ directed (t .shape .n) f (view a (t .shape .n)))
     → Steps searchAlong t b r d → Steps (towards (endsIn (view a (t .shape .n)))) t a r d
 unfolding towards
-headed-along {t} h k =
+directed-along {t} h k =
     let l : Direction < firstPair = omega arith in
     steps-at k (h (t .value)) (saved-upd Direction _ (omega arith) (λ e. omega arith) saved-refl) (rw pairs-kept)
 
@@ -174,7 +176,7 @@ descend-again {t} {a = a} {b = b} s o e z h =
 -- ---- the pairs dropped
 
 abbrev one : Float
-one = ofBits binary64 0x3FF0_0000_0000_0000
+one = toFloat oneWord
 
 abbrev dropped : Shape → Shape
 dropped h = record { n = h .n; m = h .m; pairs = 0; oldest = 0 }

@@ -64,10 +64,10 @@ fn search_along(fit: Fit, area: &mut [f64]) -> Fit
 
 // Along the direction to the end chosen.
 fn towards(fit: Fit, area: &mut [f64]) -> Fit
-    requires { ⌜ Sound (fit .shape) (length (now area)) ⌝ }
+    requires { ⌜ Sound (fit .shape) (length (now area)) × (fit .shape .n ≤ mostCoordinates) ⌝ }
     ensures { λ r. ⌜ Steps (towardsOf (endsIn (view (now (area .entry)) (fit .shape .n)))) fit (now (area .entry)) r (now (area .exit)) ⌝ }
 {
-    subspace::head(area, fit.shape.n);
+    subspace::set_direction(area, fit.shape.n);
     search_along(fit, area)
 }
 

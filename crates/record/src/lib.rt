@@ -97,7 +97,7 @@ pub struct Sums {
 }
 
 // One more word.
-pub fn added(t: Sums, w: u64) -> Sums
+fn added(t: Sums, w: u64) -> Sums
     ensures { λ r. ⌜ sumsOf r ≡ addedTo w (sumsOf t) ⌝ }
 {
     let plain = std::num::wrapping_add_u64(t.plain, w);
@@ -109,7 +109,7 @@ pub fn added(t: Sums, w: u64) -> Sums
 }
 
 // The sums of `count` words from the byte `at` on.
-pub fn sums_at(input: &[u8], at: usize, count: usize) -> Sums
+fn sums_at(input: &[u8], at: usize, count: usize) -> Sums
     requires { ⌜ at + 8 * count ≤ length (now input) ⌝ }
     ensures { λ r. ⌜ sumsOf r ≡ sumsOver (wordsOf count (drop at (now (input .entry)))) ⌝ }
 {

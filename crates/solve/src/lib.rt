@@ -18,7 +18,7 @@ pub struct Answer {
 }
 
 // The larger of m and the magnitude of x, where m is not a NaN: one comparison.
-fn raised(m: f64, x: f64) -> f64
+fn larger_magnitude(m: f64, x: f64) -> f64
     requires { ⌜ isNan m ≡ false ⌝ }
     ensures { λ r. ⌜ (isNan r ≡ false) × (r ≡ maxOf m (absOf x)) ⌝ }
 {
@@ -34,7 +34,7 @@ fn row_scale(a: &[[f64; 32]; 32], n: usize, i: usize, most: f64) -> f64
     let mut m = most;
     let mut j = 0;
     while j < n {
-        m = raised(m, a[i][j]);
+        m = larger_magnitude(m, a[i][j]);
         j += 1;
     }
     m

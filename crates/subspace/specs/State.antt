@@ -1,15 +1,15 @@
 -- The minimum over the free coordinates of the Cauchy point, and the direction to the chosen end, read off the area.
-use Prim.Native.Nat.{ℕ, _*_, _<_}
+use Prim.Native.Nat.{ℕ, _-_, _*_, _<_}
 use mathlib.Core.Path.{_≡_}
 use mathlib.Core.Bool.{Bool, cond, _&&_}
-use mathlib.Core.List.{List}
+use mathlib.Core.List.{List, _++_}
 use mathlib.Core.Option.{Option, some}
-use lib.ListN.{length}
+use lib.ListN.{length, replicate}
 use lib.Ieee as Ieee
 use lib.Ieee.{Float}
 use Rattle.definition.specs.Number.{plus, minus, times, over, min, clamp, zero64}
 use Rattle.definition.specs.Vector.{tab, word, foldTo, difference, _andThen_}
-use Rattle.definition.specs.Problem.{Bounds}
+use Rattle.definition.specs.Problem.{Bounds, mostCoordinates}
 use Rattle.definition.specs.Solve.{Matrix, row, entry, put, solve}
 use Rattle.definition.specs.Compact.{count, padded, zeroRow, paddedRows, product}
 use Rattle.definition.specs.Geometry.{anyFree, freeSum, reducedEntry, reducedRight, correction, stepsOf, shareOf, moved, movedBy, onFree, primalMinimize}
@@ -51,10 +51,6 @@ shareIn w alpha = cond (freeIn w) (shortenedIn w alpha) alpha
 
 abbrev pub movedIn : Float → (ℕ → Float) → Float
 movedIn alpha w = cond (freeIn w) (clamp (plus (w Cauchy) (times alpha (w Step))) (w Lower) (w Upper)) (w Cauchy)
-
--- the chosen end less x
-abbrev pub headIn : Float → (ℕ → Float) → Float
-headIn slope w = minus (cond (Ieee.le zero64 slope) (w Cauchy) (w Target)) (w X)
 
 -- ---- matrices of size rows and columns in an array of 32 rows of 32
 
@@ -163,6 +159,14 @@ Minimizes F a ok b = Makes Target F a ok b
 abbrev pub endsIn : Vecs → Ends
 endsIn v = record { cauchy = v Cauchy; target = v Target }
 
+-- p less q, n words each, in an array: zeros behind them
+abbrev pub differenceArray : ℕ → List Float → List Float → List Float
+differenceArray n p q = difference n p q ++ replicate (mostCoordinates - n) zero64
+
+-- the end that the slope towards the target chooses, less x
+abbrev pub directionArray : ℕ → Float → Vecs → List Float
+directionArray n slope v = differenceArray n (cond (Ieee.le zero64 slope) (v Cauchy) (v Target)) (v X)
+
 -- from the point held to the chosen end; f is its value, which does not matter here
-abbrev pub headed : ℕ → Float → Vecs → Vecs
-headed n f v = upd v Direction (difference n (chosenEnd n (state (v X) f (v G)) (endsIn v)) (v X))
+abbrev pub directed : ℕ → Float → Vecs → Vecs
+directed n f v = upd v Direction (difference n (chosenEnd n (state (v X) f (v G)) (endsIn v)) (v X))

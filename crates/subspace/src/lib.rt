@@ -2,15 +2,16 @@
 ghost use mathlib.Core.Path.{_≡_};
 ghost use mathlib.Core.Bool.{cond};
 ghost use Prim.Native.Nat.{ℕ, _+_, _*_, _≤_, _<_};
-ghost use lib.ListN.{length};
+ghost use lib.ListN.{length, replicate};
 ghost use lib.Ieee as Ieee;
 ghost use lib.Ieee.{Float};
 ghost use Rattle.definition.specs.Number.{plus, times, zero64, negZero};
+ghost use Rattle.definition.specs.Problem.{mostCoordinates};
 ghost use Rattle.definition.specs.Compact.{padded, paddedRows};
 ghost use Rattle.area.specs.Area.{view, upd, wordsAt, rowwise, firstPair, Target, ProductD, ProductZ, Step, G};
 ghost use Rattle.solve.specs.Answers.{answerOf};
 ghost use Rattle.compact.specs.State.{compactOf, columnSlot, Sound, Laid, Modelled, Prepared};
-ghost use Rattle.subspace.specs.State.{freeIn, freeTerm, columnsIn, grid, rowEach, each, productTo, fourTo, addRows, Held, addFree, reducedBy, plainIn, weightedIn, shortenedIn, shareIn, movedIn, headIn, headed, Makes, Minimizes};
+ghost use Rattle.subspace.specs.State.{freeIn, freeTerm, columnsIn, grid, rowEach, each, productTo, fourTo, addRows, Held, addFree, reducedBy, plainIn, weightedIn, shortenedIn, shareIn, movedIn, differenceArray, directionArray, directed, Makes, Minimizes};
 ghost use Rattle.subspace.specs.State.{anyFreeAt, freeSumAt, reducedAt, rightAt, weightsAt, residualAt, correctionsAt, stepsAt, shareAt, movedAt, movedByAt, onFreeAt, minimumAt};
 
 // ---- free coordinates
@@ -550,38 +551,55 @@ pub fn primal_minimize(
 // ---- the end of the direction
 
 // The target, unless it lies uphill. A slope that is no number keeps the target.
-pub fn end<'a>(target: &'a [f64], cauchy: &'a [f64], slope: f64) -> &'a [f64]
+fn end<'a>(target: &'a [f64], cauchy: &'a [f64], slope: f64) -> &'a [f64]
     ensures { λ r. ⌜ now r ≡ cond (Ieee.le zero64 slope) (now (cauchy .entry)) (now (target .entry)) ⌝ }
 {
     if 0.0 <= slope { cauchy } else { target }
 }
 
-// Word i of the chosen end, less that of x.
-fn head_at(area: &[f64], n: usize, slope: f64, i: usize) -> f64
-    requires { ⌜ (firstPair * n ≤ length (now area)) × (i < n) ⌝ }
-    ensures { λ r. ⌜ r ≡ headIn slope (wordsAt (now (area .entry)) n i) ⌝ }
+// Zeros, one for each coordinate that there may be.
+fn zeros() -> [f64; problem::MOST_COORDINATES]
+    ensures { λ r. ⌜ r ≡ replicate mostCoordinates zero64 ⌝ }
+{
+    [0.0; problem::MOST_COORDINATES]
+}
+
+// The words of `to` less those of `from`, zeros behind them.
+fn difference(to: &[f64], from: &[f64]) -> [f64; problem::MOST_COORDINATES]
+    requires { ⌜ (length (now to) ≤ mostCoordinates) × (length (now from) ≡ length (now to)) ⌝ }
+    ensures { λ r. ⌜ r ≡ differenceArray (length (now (to .entry))) (now (to .entry)) (now (from .entry)) ⌝ }
+{
+    let n = to.len();
+    let mut d = zeros();
+    let mut i = 0;
+    while i < n {
+        d[i] = to[i] - from[i];
+        i += 1;
+    }
+    d
+}
+
+// The direction from x to the end that the slope towards the target chooses, handed on as that slice.
+fn direction(area: &[f64], n: usize, slope: f64) -> [f64; problem::MOST_COORDINATES]
+    requires { ⌜ (firstPair * n ≤ length (now area)) × (n ≤ mostCoordinates) ⌝ }
+    ensures { λ r. ⌜ r ≡ directionArray n slope (view (now (area .entry)) n) ⌝ }
 {
     let t = area::TARGET * n;
-    let t_end = t + n;
     let c = area::CAUCHY * n;
-    let c_end = c + n;
-    let target = &area[t..t_end];
-    let cauchy = &area[c..c_end];
-    let to = end(target, cauchy, slope);
-    to[i] - area[area::X * n + i]
+    let x = area::X * n;
+    let target = &area[t..t + n];
+    let cauchy = &area[c..c + n];
+    let point = &area[x..x + n];
+    difference(end(target, cauchy, slope), point)
 }
 
 // The direction leads from x to the target, or to the Cauchy point where the target lies uphill.
-pub fn head(area: &mut [f64], n: usize)
-    requires { ⌜ firstPair * n ≤ length (now area) ⌝ }
-    ensures { λ _. ⌜ ((f : Float) → view (now (area .exit)) n ≡ headed n f (view (now (area .entry)) n)) ⌝ }
+pub fn set_direction(area: &mut [f64], n: usize)
+    requires { ⌜ (firstPair * n ≤ length (now area)) × (n ≤ mostCoordinates) ⌝ }
+    ensures { λ _. ⌜ ((f : Float) → view (now (area .exit)) n ≡ directed n f (view (now (area .entry)) n)) ⌝ }
 {
     area::difference(area, n, area::DIRECTION, area::TARGET, area::X);
     let slope = area::dot(area, n, area::G, area::DIRECTION);
-    let mut i = 0;
-    while i < n {
-        let v = head_at(area, n, slope, i);
-        area[area::DIRECTION * n + i] = v;
-        i += 1;
-    }
+    let d = direction(area, n, slope);
+    area::store(area, n, area::DIRECTION, &d[0..n]);
 }

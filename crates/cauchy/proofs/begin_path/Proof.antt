@@ -10,7 +10,7 @@ returns c =
     let n = c .before .before .before in
     let f = n .before .before .before .before in
     let s = f .before .before .before .before in
-    rw zero-is (begins _ _ (s .set-off .ensures) (rw zero-is at (f .fill .ensures)) (n .no-bound .ensures) (c .before .before .fill2 .ensures))
+    rw zero-is (begins _ _ (s .set-velocity .ensures) (rw zero-is at (f .fill .ensures)) (n .no-bound .ensures) (c .before .before .fill2 .ensures))
 
 pub begin-path-spec : {M : Type 1} → statement M
 begin-path-spec =

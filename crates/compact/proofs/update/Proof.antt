@@ -1,4 +1,4 @@
--- `compact::update` meets its contract: a pair that is worth it is pushed, and otherwise all stays. Assumes nothing.
+-- `compact::update` meets its contract: a pair that is acceptable is pushed, and otherwise all stays. Assumes nothing.
 use mathlib.Core.Path.{sym, _∙_}
 use borrow.Author.Needs.{needs}
 use Rattle.compact.proofs.Ring.{pair-taken, pair-refused}
@@ -9,10 +9,11 @@ returns : tie.Need-returns
 returns c =
     let t = c .before .before .before .before in
     let d = t .before .before .before .before in
-    pair-taken (d .dot .ensures) (t .before .before .dot2 .ensures) (sym (t .before .worth .ensures) ∙ t .if1 .taken) (c .before .before .push .ensures)
+    pair-taken (d .dot .ensures) (t .before .before .dot2 .ensures) (sym (t .before .acceptable .ensures) ∙ t .if1 .taken) (c .before .before .push .ensures)
 
 returns-2 : tie.Need-returns-2
-returns-2 c = pair-refused (c .before .before .before .before .dot .ensures) (c .before .before .dot2 .ensures) (sym (c .before .worth .ensures) ∙ c .if1 .left)
+returns-2 c =
+    pair-refused (c .before .before .before .before .dot .ensures) (c .before .before .dot2 .ensures) (sym (c .before .acceptable .ensures) ∙ c .if1 .left)
 
 pub update-spec : {M : Type 1} → statement M
 update-spec =

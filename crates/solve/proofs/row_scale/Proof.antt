@@ -20,7 +20,7 @@ loop-holds : tie.Need-loop-holds Inv-loop μ-loop
 loop-holds c = (c .pre .2, looped-none)
 
 loop-again : tie.Need-loop-again Inv-loop μ-loop
-loop-again c = (c .raised .ensures .0, looped-more (c .before .before .before .loop .inv .1) (omega arith) (c .raised .ensures .1))
+loop-again c = (c .larger-magnitude .ensures .0, looped-more (c .before .before .before .loop .inv .1) (omega arith) (c .larger-magnitude .ensures .1))
 
 returns : tie.Need-returns Inv-loop μ-loop
 returns c = (c .before .loop .inv .0, looped-done (c .before .loop .inv .1) (omega arith))

@@ -1,11 +1,11 @@
--- `solve::raised` meets its contract: where m is not a NaN, `max` is one comparison, which no NaN passes. Assumes nothing.
+-- `solve::larger_magnitude` meets its contract: where m is not a NaN, `max` is one comparison, which no NaN passes. Assumes nothing.
 use mathlib.Core.Path.{_≡_, refl, sym}
 use mathlib.Core.Bool.{true, false}
 use borrow.Author.Needs.{needs}
 use lib.Ieee.{Float, nan, inf, fin, lt, isNan}
 use Rattle.definition.specs.Number.{max}
-use Rattle.solve.proofs.raised.Statement.{statement}
-use Rattle.solve.proofs.raised.Tie as tie
+use Rattle.solve.proofs.larger_magnitude.Statement.{statement}
+use Rattle.solve.proofs.larger_magnitude.Tie as tie
 
 passed : (m y : Float) → lt m y ≡ true → isNan y ≡ false
 unfolding lt isNan
@@ -27,5 +27,5 @@ returns c = taken _ _ _ (c .before .before .pre) (c .before .abs .ensures) (c .i
 returns-2 : tie.Need-returns-2
 returns-2 c = kept _ _ _ (c .before .before .pre) (c .before .abs .ensures) (c .if1 .left)
 
-pub raised-spec : {M : Type 1} → statement M
-raised-spec = tie.close (tie.spec (λ c κs. search needs) returns returns-2)
+pub larger-magnitude-spec : {M : Type 1} → statement M
+larger-magnitude-spec = tie.close (tie.spec (λ c κs. search needs) returns returns-2)

@@ -1,10 +1,10 @@
--- `compact::worth` meets its contract, test by test. Assumes nothing.
+-- `compact::acceptable` meets its contract, test by test. Assumes nothing.
 use mathlib.Core.Path.{sym, _∙_}
 use borrow.Author.Needs.{needs}
 use borrow.Author.Tests.{not-true, not-false}
 use Rattle.float.proofs.Constants.{epsilon-is, zero-is}
-use Rattle.compact.proofs.worth.Statement.{statement}
-use Rattle.compact.proofs.worth.Tie as tie
+use Rattle.compact.proofs.acceptable.Statement.{statement}
+use Rattle.compact.proofs.acceptable.Tie as tie
 
 returns : tie.Need-returns
 returns c = simp (sym (c .before .is-finite .ensures) ∙ not-true _ (c .if1 .taken))
@@ -43,8 +43,8 @@ returns-5 c =
       rw epsilon-is at (c .if3 .left),
     )
 
-pub worth-spec : {M : Type 1} → statement M
-worth-spec =
+pub acceptable-spec : {M : Type 1} → statement M
+acceptable-spec =
     tie.close
     (tie.spec
     (λ c κs. search needs)

@@ -1,10 +1,10 @@
--- `cauchy::set_off` meets its contract: word i of the velocity is made of the words at i. Assumes nothing.
+-- `cauchy::set_velocity` meets its contract: word i of the velocity is made of the words at i. Assumes nothing.
 use Prim.Native.Nat.{_-_}
 use native.Mathlib.Omega.{arith}
 use Rattle.area.proofs.Laws.{Row, row-none, laws}
 use Rattle.cauchy.specs.State.{velocityIn}
-use Rattle.cauchy.proofs.set_off.Statement.{statement}
-use Rattle.cauchy.proofs.set_off.Tie as tie
+use Rattle.cauchy.proofs.set_velocity.Statement.{statement}
+use Rattle.cauchy.proofs.set_velocity.Tie as tie
 
 abbrev Inv-loop : tie.InvT-loop
 Inv-loop area₀ n to i₀ area i = Row area₀ n 8 (λ i w. velocityIn w) area i
@@ -15,8 +15,8 @@ abbrev μ-loop : tie.MeasureT-loop
 loop-holds : tie.Need-loop-holds Inv-loop μ-loop
 loop-holds c = row-none (omega arith)
 
-pub set-off-spec : {M : Type 1} → statement M
-set-off-spec =
+pub set-velocity-spec : {M : Type 1} → statement M
+set-velocity-spec =
     tie.close
     (tie.spec
     Inv-loop
