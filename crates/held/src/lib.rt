@@ -10,26 +10,8 @@ use fit::Extra;
 use fit::Fit;
 use fit::Phase;
 use problem::Limits;
-use problem::MaybeCount;
-use problem::MaybeFloat;
-use problem::Options;
-use problem::Scheme;
 use search::Search;
 use search::Trials;
-
-fn no_options() -> Options {
-    Options {
-        bounded: false,
-        maxiter: MaybeCount::Absent,
-        maxfev: MaybeCount::Absent,
-        tol: MaybeFloat::Absent,
-        ftol: MaybeFloat::Absent,
-        gtol: MaybeFloat::Absent,
-        maxcor: MaybeCount::Absent,
-        eps: MaybeFloat::Absent,
-        scheme: Scheme::Forward,
-    }
-}
 
 fn no_limits() -> Limits {
     Limits {
@@ -76,7 +58,7 @@ pub fn empty() -> Fit
     };
     Fit {
         shape: shape,
-        options: no_options(),
+        options: problem::no_options(),
         limits: no_limits(),
         counters: counters,
         phase: Phase::Notice,
