@@ -66,6 +66,15 @@ pub fn put_floats(x: &mut [f64], s: &[u8], i: usize) {
     }
 }
 
+// The words from i on, as many as x has room for.
+pub fn put_words(x: &mut [u64], s: &[u8], i: usize) {
+    let mut j = 0;
+    while j < x.len() {
+        x[j] = word(s, after(i, j));
+        j += 1;
+    }
+}
+
 // ---- a file
 
 // The file that the first argument names. Where it cannot be read that is said, and the answer is negative.
