@@ -1,4 +1,4 @@
--- `kernel_cases::model_case` is safe: the product, the Cauchy point and the target are made with the factors of the pairs' block, and the model stays. Assumes nothing.
+-- `kernel_cases::model_case` is safe: product, Cauchy point and target are made with the factors of the pairs' block, and the model stays. Assumes nothing.
 use mathlib.Core.Path.{refl, _∙_}
 use native.Mathlib.Omega.{arith}
 use borrow.Author.Needs.{needs}
@@ -48,12 +48,13 @@ same-length-3 c =
 
 primal-minimize-requires : tie.Need-primal-minimize-requires
 primal-minimize-requires c κs =
-    let g = c .before .before .before .before .before .before .before .before .before .before .before .before .before .before in
+    let a = c .before .before .before .before .before .before .before .before .before .before .before .before .before in
+    let g = a .before in
     let f = g .before .before .before .before .before .before in
     let b = f .before .before .before .before .before .before in
     let l = b .before .before .before .before in
     let k = g .generalized-cauchy .ensures .kept .high in (
-      rw (c .before .before .before .before .before .before .before .before .before .before .before .before .before .area3 .given ∙ b .before .before .before .area .given) (l .before .before .before .before .pre .0),
+      rw (a .area3 .given ∙ b .before .before .before .area .given) (l .before .before .before .before .pre .0),
       modelled-kept _ k (record { laid = l .lay-columns .ensures .0; block = b .block .ensures }),
       prepared-kept _ k (prepared (record { laid = l .lay-columns .ensures .0; block = b .block .ensures }) (f .factor .ensures)),
     )
