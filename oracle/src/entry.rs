@@ -19,22 +19,31 @@ pub enum Reply {
     Failure,
 }
 
+/// A kind of entry: the words behind it, where there are n coordinates, and the
+/// reply that these are.
+struct Row {
+    kind: u64,
+    words: fn(usize) -> usize,
+    reply: fn(&[u64]) -> Reply,
+}
+
+const KINDS: [Row; 6] = [
+    Row { kind: 1, words: |_| 1, reply: |words| Reply::Value(words[0]) },
+    Row { kind: 2, words: |n| n, reply: |words| Reply::Gradient(words.to_vec()) },
+    Row { kind: 3, words: |_| 0, reply: |_| Reply::NotSupplied },
+    Row { kind: 4, words: |_| 0, reply: |_| Reply::GoOn },
+    Row { kind: 5, words: |_| 0, reply: |_| Reply::Stop },
+    Row { kind: 6, words: |_| 0, reply: |_| Reply::Failure },
+];
+
 impl Reply {
     /// Reads the entry that `log` begins with, and gives the words after it.
     /// None where it is unknown or cut.
     pub fn read(log: &[u64], n: usize) -> Option<(Self, &[u64])> {
         let (&kind, rest) = log.split_first()?;
-        match kind {
-            1 => rest.split_first().map(|(&value, rest)| (Self::Value(value), rest)),
-            2 => rest
-                .split_at_checked(n)
-                .map(|(gradient, rest)| (Self::Gradient(gradient.to_vec()), rest)),
-            3 => Some((Self::NotSupplied, rest)),
-            4 => Some((Self::GoOn, rest)),
-            5 => Some((Self::Stop, rest)),
-            6 => Some((Self::Failure, rest)),
-            _ => None,
-        }
+        let row = KINDS.iter().find(|row| row.kind == kind)?;
+        let (words, rest) = rest.split_at_checked((row.words)(n))?;
+        Some(((row.reply)(words), rest))
     }
 
     /// Appends the reply's entry to a log.

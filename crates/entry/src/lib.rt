@@ -11,9 +11,9 @@ ghost use Rattle.definition.specs.Programs.{inputCoordinates, returnPoint, retu
 ghost use Rattle.question.specs.Reports.{written};
 ghost use Rattle.lbfgsb.specs.Words.{words, Held};
 ghost use Rattle.entry.specs.Entry.{Returns, HasEnded};
-use fit::Fit;
 use lbfgsb::Answer;
 use lbfgsb::Asked;
+use lbfgsb::Fit;
 use lbfgsb::Told;
 
 // The words of the first n floats, little-endian, into the front of the output.

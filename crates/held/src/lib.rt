@@ -13,13 +13,6 @@ use fit::Extra;
 use fit::Fit;
 use fit::Phase;
 use problem::Limits;
-use problem::MaybeCount;
-use problem::MaybeFloat;
-use problem::Options;
-use problem::Scheme;
-use search::Search;
-use search::Step;
-use search::Trials;
 
 // ---- the held test
 
@@ -132,19 +125,6 @@ pub fn mark(area: &mut [f64], shape: Shape)
 }
 
 // ---- the state that holds no fit
-fn no_options() -> Options {
-    Options {
-        bounded: false,
-        maxiter: MaybeCount::Absent,
-        maxfev: MaybeCount::Absent,
-        tol: MaybeFloat::Absent,
-        ftol: MaybeFloat::Absent,
-        gtol: MaybeFloat::Absent,
-        maxcor: MaybeCount::Absent,
-        eps: MaybeFloat::Absent,
-        scheme: Scheme::Forward,
-    }
-}
 
 fn no_limits() -> Limits {
     Limits {
@@ -152,25 +132,6 @@ fn no_limits() -> Limits {
         gtol: 0.0,
         maxiter: 0,
         maxfev: 0,
-    }
-}
-
-fn no_search() -> Search {
-    let step = Step {
-        alpha: 0.0,
-        low: 0.0,
-        high: 0.0,
-        slope0: 0.0,
-        amax: 0.0,
-    };
-    let trials = Trials {
-        count: 0,
-        face: false,
-        bracketed: false,
-    };
-    Search {
-        step: step,
-        trials: trials,
     }
 }
 
@@ -195,11 +156,11 @@ pub fn empty() -> Fit
     };
     Fit {
         shape: shape,
-        options: no_options(),
+        options: problem::no_options(),
         limits: no_limits(),
         counters: counters,
         phase: Phase::Notice,
-        search: no_search(),
+        search: search::no_search(),
         value: 0.0,
         trial_value: 0.0,
         right_value: 0.0,

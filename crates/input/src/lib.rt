@@ -4,7 +4,7 @@ ghost use lib.ListN.{length};
 ghost use Rattle.definition.specs.Programs.{inputArea, inputLog, readInput};
 ghost use Rattle.input.specs.Input.{Taken};
 use lbfgsb::Answer;
-use problem::Refusal;
+use lbfgsb::Refusal;
 
 // The most coordinates of an input.
 pub const COORDINATES: usize = 64;
@@ -31,5 +31,5 @@ pub fn read(area: &mut [f64], log: &mut [u64], input: &[u8]) -> Answer
         };
         return Answer::Refused(c);
     }
-    lbfgsb::restore(held::empty(), area, log, input)
+    lbfgsb::restore(lbfgsb::empty(), area, log, input)
 }

@@ -9,14 +9,21 @@ ghost use Rattle.fit.specs.declared.Fit.{Fit};
 ghost use Rattle.lbfgsb.specs.Words.{words};
 ghost use Rattle.lbfgsb.specs.Bridge.{setupIn, refusalOf, replied, refusalBy, next, nextBy, kept, keptBy, asked, told, entered, saved};
 ghost use Rattle.lbfgsb.specs.Did.{Started, Restored, Replied, TakenBack, Read, Counted};
-use driver::Reply;
-use fit::Fit;
 use problem::Checked;
-use problem::Options;
-use problem::Refusal;
-use question::Outcome;
 use record::Parsed;
 use replay::Replayed;
+
+// What a caller names besides, passed on: the state and one that holds no fit, the options and those with nothing given, replies, reports.
+pub use driver::Reply;
+pub use fit::Fit;
+pub use held::empty;
+pub use problem::MaybeCount;
+pub use problem::MaybeFloat;
+pub use problem::Options;
+pub use problem::Refusal;
+pub use problem::Scheme;
+pub use problem::no_options;
+pub use question::Outcome;
 
 // The state to go on with, or a refusal: then it is the one that was given.
 pub enum Answer {

@@ -15,7 +15,6 @@ use Rattle.definition.specs.Driver as D
 use Rattle.area.specs.Area.{Vecs, view, upd, vectors, FreeKept, X, G, Lower, Upper, X0, Trial, TrialGradient, Direction}
 use Rattle.problem.specs.declared.Options.{Options}
 use Rattle.problem.specs.Setups.{setupIn, boundsIn, placesIn, limitsIn, floatOf, schemeOf, boxOf}
-use Rattle.search.specs.declared.Trials.{Trials}
 use Rattle.compact.specs.declared.Shape.{Shape}
 use Rattle.compact.specs.State.{Sound}
 use Rattle.search.specs.State.{Settled}
@@ -60,9 +59,6 @@ firstVectors n v =
     upd (upd (upd (upd (upd v X (clipped n v)) Trial (clipped n v)) G (zeros n)) TrialGradient (zeros n)) Direction (zeros n)
 
 -- ---- the state at the first question
-
-abbrev pub noTrials : Trials
-noTrials = record { count = 0; face = false; bracketed = false }
 
 abbrev pub firstShape : Options → ℕ → Shape
 firstShape o n = record { n = n; m = placesIn o; pairs = 0; oldest = 0 }

@@ -3,19 +3,15 @@ ghost use mathlib.Core.Path.{_≡_};
 ghost use Prim.Native.Nat.{_*_, _≤_};
 ghost use mathlib.Core.Bool.{true};
 ghost use lib.ListN.{length};
-ghost use Rattle.definition.specs.Driver.{noSearch};
 ghost use Rattle.area.specs.Area.{view, upd, firstPair, X};
 ghost use Rattle.problem.specs.Setups.{setupIn};
-ghost use Rattle.search.specs.State.{searchOf, Settled};
-ghost use Rattle.opening.specs.Opened.{setupAt, Room, Fits, boxed, clipped, firstVectors, noTrials, First, Stored, Opened};
+ghost use Rattle.opening.specs.Opened.{setupAt, Room, Fits, boxed, clipped, firstVectors, First, Stored, Opened};
 use compact::Shape;
 use fit::Extra;
 use fit::Fit;
 use fit::Phase;
 use fit::Place;
 use problem::Options;
-use search::Search;
-use search::Trials;
 
 // Bounds that hold nothing back, where the setup has none.
 fn open_box(area: &mut [f64], n: usize, bounded: bool)
@@ -56,25 +52,13 @@ fn first_vectors(area: &mut [f64], n: usize)
     area::fill(area, n, area::DIRECTION, 0.0);
 }
 
-fn no_search() -> Search
-    ensures { λ r. ⌜ (searchOf r noTrials ≡ noSearch) × Settled r noTrials ⌝ }
-{
-    Search {
-        alpha: 0.0,
-        low: 0.0,
-        high: 0.0,
-        slope0: 0.0,
-        amax: 0.0,
-    }
-}
-
 // The state at the first question.
 fn first_fit(o: Options, n: usize) -> Fit
     ensures { λ r. ⌜ First o n r ⌝ }
 {
     let limits = problem::in_force(o);
     let counters = counters::first_counters();
-    let search = no_search();
+    let search = search::no_search();
     Fit {
         shape: Shape {
             n: n,
@@ -87,15 +71,10 @@ fn first_fit(o: Options, n: usize) -> Fit
         counters: counters,
         phase: Phase::Value(Place::Start),
         search: search,
-        trials: Trials {
-            count: 0,
-            face: false,
-            bracketed: false,
-        },
         value: 0.0,
-        trial: 0.0,
-        right: 0.0,
-        before: 0.0,
+        trial_value: 0.0,
+        right_value: 0.0,
+        value_before: 0.0,
         theta: 1.0,
         extra: Extra {
             entries: 0,

@@ -32,6 +32,20 @@ abbrev pub schemeOf : Scheme → P.Scheme
 schemeOf Forward = P.Scheme.forward
 schemeOf Central = P.Scheme.central
 
+-- no box, and every option absent
+abbrev pub noOptions : Options
+noOptions = record {
+  bounded = false;
+  maxiter = K.Absent;
+  maxfev = K.Absent;
+  tol = F.Absent;
+  ftol = F.Absent;
+  gtol = F.Absent;
+  maxcor = K.Absent;
+  eps = F.Absent;
+  scheme = Forward;
+}
+
 abbrev pub boxOf : List Float → List Float → P.Bounds
 boxOf l u = record { lower = l; upper = u }
 

@@ -9,7 +9,7 @@ ghost use Rattle.definition.specs.Number.{infinity, negInfinity};
 ghost use Rattle.definition.specs.Problem.{refuse, _then_, given, checkSide, checkPair, checkBounds, positive as positiveOf};
 ghost use Rattle.definition.specs.Problem.{finitePositive, finiteNonnegative, atMost, orElse, either};
 ghost use Rattle.definition.specs.Problem.{checkProblem, checkCommon, checkOptions, checkLimits, validate as validateOf};
-ghost use Rattle.problem.specs.Setups.{floatOf, countOf, boxOf, setupIn, checkOf, eachFinite, eachNumber, eachPair, limitsOf, limitsIn, placesIn};
+ghost use Rattle.problem.specs.Setups.{floatOf, countOf, boxOf, setupIn, checkOf, eachFinite, eachNumber, eachPair, noOptions, limitsOf, limitsIn, placesIn};
 
 // What applies where a setup does not say, as in the Rust.
 const DEFAULT_BUDGET: usize = 15_000;
@@ -70,6 +70,23 @@ pub struct Refusal {
 pub enum Checked {
     Passed,
     Refused(Refusal),
+}
+
+// No box, and every option absent.
+pub fn no_options() -> Options
+    ensures { λ r. ⌜ r ≡ noOptions ⌝ }
+{
+    Options {
+        bounded: false,
+        maxiter: MaybeCount::Absent,
+        maxfev: MaybeCount::Absent,
+        tol: MaybeFloat::Absent,
+        ftol: MaybeFloat::Absent,
+        gtol: MaybeFloat::Absent,
+        maxcor: MaybeCount::Absent,
+        eps: MaybeFloat::Absent,
+        scheme: Scheme::Forward,
+    }
 }
 
 // A refusal by its number and details.

@@ -2,28 +2,16 @@
 // reports", has its format.
 use libc::STDOUT_FILENO;
 
-// Reads to buf from one byte to another, and answers whether all of it came.
-fn fetch(fd: i32, buf: &mut [u8], from: usize, to: usize) -> bool {
-    if to > buf.len() {
-        return false;
-    }
-    if from > to {
-        return false;
-    }
-    io::read_full(fd, &mut buf[from..to]) == to - from
-}
-
 // The next input: a word of how many zero bytes it begins with, a word of how many bytes follow, and these. Whether it came whole.
 fn one_case(fd: i32) -> bool {
     let mut head = [0u8; 16];
-    if !fetch(fd, &mut head, 0, 16) {
+    if !cases::fetch(fd, &mut head, 0, 2) {
         return false;
     }
-    let zeros = record::word_at(&head, 0) as usize;
-    let size = record::word_at(&head, 8) as usize;
+    let zeros = cases::size(&head, 0);
     let mut input = [0u8; 65537];
-    let end = std::num::wrapping_add_usize(zeros, size);
-    if !fetch(fd, &mut input, zeros, end) {
+    let end = cases::after(zeros, cases::size(&head, 1));
+    if !cases::fetch_bytes(fd, &mut input, zeros, end) {
         return false;
     }
     print(&input, end);
@@ -52,11 +40,8 @@ fn run(fd: i32) {
 }
 
 fn main() {
-    let mut path = io::buffer();
-    let length = os::arg(1, &mut path);
-    let fd = os::open_read(&path[..length]);
+    let fd = cases::opened();
     if fd < 0 {
-        os::fail(&path[..length]);
         return;
     }
     run(fd);

@@ -10,15 +10,15 @@ ghost use Rattle.lbfgsb.specs.Bridge.{replied, next, kept};
 ghost use Rattle.lbfgsb.specs.Did.{Stepped};
 ghost use Rattle.script.specs.Script.{Spans, partOf, replyAt, changeOf, pointOf, readOf, given, callOf, calledAt, unrunAs};
 ghost use Rattle.script.specs.Script.{ranAs, askedAs, toldAs, enteredAs, savedAs, shown, calls, Shows, Runs};
-use driver::Reply;
-use fit::Fit;
 use lbfgsb::Answer;
 use lbfgsb::Asked;
+use lbfgsb::Fit;
+use lbfgsb::Options;
+use lbfgsb::Outcome;
+use lbfgsb::Refusal;
+use lbfgsb::Reply;
 use lbfgsb::Told;
 use lbfgsb::Wrote;
-use problem::Options;
-use problem::Refusal;
-use question::Outcome;
 
 // What the last call answered; its point, words or bytes stand in the outputs.
 pub enum Shown {

@@ -2,22 +2,11 @@
 // that just holds the fit, a log that just holds its five replies, and a state of junk. Of each script the last answer is written, one line
 // each: its number (0 nothing, 1 done, 2 refused, 3 no question, 4 question, 5 report, 6 replies, 7 entry, 8 save) and what comes with it.
 // Of a refusal that is its number and both details, so that these stand in the expected output as document 01 has them: 14 and 3 (expected, found).
-use compact::Shape;
-use counters::Counters;
-use fit::Extra;
-use fit::Fit;
-use fit::Phase;
+use cases::after;
+use cases::least;
+use lbfgsb::Fit;
 use libc::STDOUT_FILENO;
-use problem::Limits;
-use problem::MaybeCount;
-use problem::MaybeFloat;
-use problem::Options;
-use problem::Refusal;
-use problem::Scheme;
-use question::Outcome;
 use script::Shown;
-use search::Search;
-use search::Trials;
 
 const START: u64 = 0;
 
@@ -51,85 +40,172 @@ const EIGHT: u64 = 0x4020_0000_0000_0000;
 // The bytes of the case's record.
 const RECORD: usize = 184;
 
+// ---- the scripts
+
+// The calls of all scripts, one script behind another.
+const CALLED: usize = 62;
+
+const CALLS: [[u64; 3]; CALLED] = [
+    // the case: value, gradient, value, gradient, go on, report
+    [START, 0, 0],
+    [VALUE, EIGHT, 0],
+    [GRADIENT, 0, 1],
+    [VALUE, 0, 0],
+    [GRADIENT, 1, 1],
+    [GO_ON, 0, 0],
+    [REPORT, 0, 0],
+    // a value taken back and given anew
+    [START, 0, 0],
+    [VALUE, EIGHT, 0],
+    [GRADIENT, 0, 1],
+    [VALUE, ONE, 0],
+    [TAKE_BACK, 1, 0],
+    [VALUE, 0, 0],
+    [GRADIENT, 1, 1],
+    [GO_ON, 0, 0],
+    [REPORT, 0, 0],
+    // all taken back: the first question is open again
+    [START, 0, 0],
+    [VALUE, EIGHT, 0],
+    [GRADIENT, 0, 1],
+    [VALUE, ONE, 0],
+    [TAKE_BACK, 3, 0],
+    [QUESTION, 0, 0],
+    // a reply that is not due
+    [START, 0, 0],
+    [GO_ON, 0, 0],
+    // a gradient of two words
+    [START, 0, 0],
+    [VALUE, EIGHT, 0],
+    [GRADIENT, 0, 2],
+    // more taken back than given
+    [START, 0, 0],
+    [VALUE, EIGHT, 0],
+    [TAKE_BACK, 2, 0],
+    // sides of the box longer than the start: the lower one of three words before the upper one of two, then the upper one alone
+    [START, 0, 0],
+    [START, 0, 0],
+    // a refused reply keeps the fit: its replies are those of before, then its entry
+    [START, 0, 0],
+    [VALUE, EIGHT, 0],
+    [GRADIENT, 0, 2],
+    [REPLIES, 0, 0],
+    [START, 0, 0],
+    [VALUE, EIGHT, 0],
+    [GRADIENT, 0, 2],
+    [ENTRY, 0, 0],
+    // calls at no fit, unknown ops, a part out of range and two words too many, before the question
+    [99, 5, 6],
+    [VALUE, EIGHT, 0],
+    [TAKE_BACK, 1, 0],
+    [RESTORE, 0, 9],
+    [RESTORE, 0xFFFF_FFFF_FFFF_FFFF, 9],
+    [REPORT, 0, 0],
+    [START, 0, 0],
+    [QUESTION, 0, 0],
+    [5, 5, 0],
+    // no call at all
+    [START, 0, 0],
+    // the record of the case, and the fit that is read in from it: its replies, and its report; a record cut by a byte
+    [START, 0, 0],
+    [VALUE, EIGHT, 0],
+    [GRADIENT, 0, 1],
+    [VALUE, 0, 0],
+    [GRADIENT, 1, 1],
+    [GO_ON, 0, 0],
+    [SAVE, 0, 0],
+    [RESTORE, 0, 184],
+    [REPLIES, 0, 0],
+    [RESTORE, 0, 184],
+    [REPORT, 0, 0],
+    [RESTORE, 0, 183],
+];
+
+// Of each script: its words, the lengths of both sides of its box, and how many bytes of the last record saved it may read.
+const SCRIPTS: [[usize; 4]; 16] = [
+    [21, 1, 1, 1],
+    [27, 1, 1, 1],
+    [18, 1, 1, 1],
+    [6, 1, 1, 1],
+    [9, 1, 1, 1],
+    [9, 1, 1, 1],
+    [3, 3, 2, 1],
+    [3, 1, 2, 1],
+    [12, 1, 1, 1],
+    [12, 1, 1, 1],
+    [26, 1, 1, 1],
+    [2, 1, 1, 1],
+    [21, 1, 1, 1],
+    [6, 1, 1, RECORD],
+    [6, 1, 1, RECORD],
+    [3, 1, 1, RECORD],
+];
+
+// The words of the longest script.
+const LONGEST: usize = 27;
+
 // ---- what a script is given
-
-fn options() -> Options {
-    Options {
-        bounded: true,
-        maxiter: MaybeCount::Absent,
-        maxfev: MaybeCount::Absent,
-        tol: MaybeFloat::Absent,
-        ftol: MaybeFloat::Absent,
-        gtol: MaybeFloat::Absent,
-        maxcor: MaybeCount::Absent,
-        eps: MaybeFloat::Absent,
-        scheme: Scheme::Forward,
-    }
-}
-
-fn limits() -> Limits {
-    Limits {
-        ftol: 7.0,
-        gtol: 7.0,
-        maxiter: 7,
-        maxfev: 7,
-    }
-}
-
-fn search_junk() -> Search {
-    Search {
-        alpha: 7.0,
-        low: 7.0,
-        high: 7.0,
-        slope0: 7.0,
-        amax: 7.0,
-    }
-}
 
 // A state of sevens: the fit of no run.
 fn junk() -> Fit {
-    let shape = Shape {
-        n: 7,
-        m: 7,
-        pairs: 7,
-        oldest: 7,
-    };
-    let counters = Counters {
-        nit: 7,
-        nfev: 7,
-        njev: 7,
-    };
-    let trials = Trials {
-        count: 7,
-        face: true,
-        bracketed: true,
-    };
-    let extra = Extra {
-        entries: 7,
-        words: 7,
-    };
-    Fit {
-        shape: shape,
-        options: options(),
-        limits: limits(),
-        counters: counters,
-        phase: Phase::Notice,
-        search: search_junk(),
-        trials: trials,
-        value: 7.0,
-        trial: 7.0,
-        right: 7.0,
-        before: 7.0,
-        theta: 7.0,
-        extra: extra,
+    let mut f = lbfgsb::empty();
+    f.shape.n = 7;
+    f.shape.m = 7;
+    f.shape.pairs = 7;
+    f.shape.oldest = 7;
+    f.options.bounded = true;
+    f.limits.ftol = 7.0;
+    f.limits.gtol = 7.0;
+    f.limits.maxiter = 7;
+    f.limits.maxfev = 7;
+    f.counters.nit = 7;
+    f.counters.nfev = 7;
+    f.counters.njev = 7;
+    f.search.alpha = 7.0;
+    f.search.low = 7.0;
+    f.search.high = 7.0;
+    f.search.slope0 = 7.0;
+    f.search.amax = 7.0;
+    f.trials.count = 7;
+    f.trials.face = true;
+    f.trials.bracketed = true;
+    f.value = 7.0;
+    f.trial = 7.0;
+    f.right = 7.0;
+    f.before = 7.0;
+    f.theta = 7.0;
+    f.extra.entries = 7;
+    f.extra.words = 7;
+    f
+}
+
+// The words of the calls from one on.
+fn words_from(first: usize) -> [u64; LONGEST] {
+    let mut words = [0u64; LONGEST];
+    let mut i = 0;
+    while i < LONGEST / 3 {
+        let k = after(first, i);
+        if k < CALLED {
+            let call = CALLS[k];
+            words[3 * i] = call[0];
+            words[3 * i + 1] = call[1];
+            words[3 * i + 2] = call[2];
+        }
+        i += 1;
     }
+    words
 }
 
 // ---- writing
 
-fn number(n: usize) {
-    io::write_all(STDOUT_FILENO, b" ");
-    io::print_decimal(STDOUT_FILENO, n as u64);
+fn numbers(kind: &[u8], of: &[usize]) {
+    io::write_all(STDOUT_FILENO, kind);
+    let mut i = 0;
+    while i < of.len() {
+        io::write_all(STDOUT_FILENO, b" ");
+        io::print_decimal(STDOUT_FILENO, of[i] as u64);
+        i += 1;
+    }
 }
 
 fn word(w: u64) {
@@ -137,84 +213,57 @@ fn word(w: u64) {
     io::print_hex(STDOUT_FILENO, w, 16);
 }
 
-fn float(x: f64) {
-    word(float::float_to_word(x));
-}
-
-fn refused(c: Refusal) {
-    number(c.number);
-    number(c.first);
-    number(c.second);
-}
-
-fn asked(k: usize, point: f64) {
-    number(k);
-    float(point);
-}
-
-fn reported(o: Outcome, point: f64) {
-    number(o.status);
-    number(o.nit);
-    number(o.nfev);
-    number(o.njev);
-    number(o.drawn);
-    float(o.value);
-    float(point);
-}
-
-fn entered(k: usize, first: u64, second: u64) {
-    number(k);
-    word(first);
-    word(second);
-}
-
-fn kind_of(last: Shown) -> u64 {
-    match last {
-        Shown::Nothing => 0,
-        Shown::Done => 1,
-        Shown::Refused(_) => 2,
-        Shown::Unasked => 3,
-        Shown::Asked(_) => 4,
-        Shown::Reported(_) => 5,
-        Shown::Counted(_) => 6,
-        Shown::Entered(_) => 7,
-        Shown::Saved(_) => 8,
-    }
-}
-
 fn show(last: Shown, point: f64, first: u64, second: u64) {
-    io::print_decimal(STDOUT_FILENO, kind_of(last));
     match last {
-        Shown::Nothing => {}
-        Shown::Done => {}
-        Shown::Refused(c) => refused(c),
-        Shown::Unasked => {}
-        Shown::Asked(k) => asked(k, point),
-        Shown::Reported(o) => reported(o, point),
-        Shown::Counted(k) => number(k),
-        Shown::Entered(k) => entered(k, first, second),
-        Shown::Saved(k) => number(k),
+        Shown::Nothing => numbers(b"0", &[]),
+        Shown::Done => numbers(b"1", &[]),
+        Shown::Refused(c) => numbers(b"2", &[c.number, c.first, c.second]),
+        Shown::Unasked => numbers(b"3", &[]),
+        Shown::Asked(k) => {
+            numbers(b"4", &[k]);
+            word(float::float_to_word(point));
+        }
+        Shown::Reported(o) => {
+            numbers(b"5", &[o.status, o.nit, o.nfev, o.njev, o.drawn]);
+            word(float::float_to_word(o.value));
+            word(float::float_to_word(point));
+        }
+        Shown::Counted(k) => numbers(b"6", &[k]),
+        Shown::Entered(k) => {
+            numbers(b"7", &[k]);
+            word(first);
+            word(second);
+        }
+        Shown::Saved(k) => numbers(b"8", &[k]),
     }
+    io::write_all(STDOUT_FILENO, b"\n");
 }
 
-// ---- scripts
+// ---- the scripts in turn
 
-// The last answer of a script, with a box of these sides.
-fn run_within(calls: &[u64], lower: &[f64], upper: &[f64], input: &[u8], bytes: &mut [u8]) {
-    let x0 = [4.0f64];
-    let gradients = [FOUR, 0u64];
+// The last answer of the script of a row, whose calls start at one.
+fn run(first: usize, row: [usize; 4], record: &[u8], bytes: &mut [u8]) {
+    let mut o = lbfgsb::no_options();
+    o.bounded = true;
+    let words = words_from(first);
+    let calls = least(row[0], LONGEST);
+    let lower = least(row[1], 3);
+    let upper = least(row[2], 2);
+    let input = least(row[3], record.len());
     let mut area = [0.0f64; 496];
     let mut log = [0u64; 9];
     let mut point = [0.0f64; 1];
     let mut found = [0u64; 2];
+    let lows = [-8.0f64; 3];
+    let highs = [8.0f64; 2];
     let r = script::run_script(
-        calls,
-        options(),
-        &x0,
-        lower,
-        upper,
-        &gradients,
-        input,
+        &words[0..calls],
+        o,
+        &[4.0f64],
+        &lows[0..lower],
+        &highs[0..upper],
+        &[FOUR, 0u64],
+        &record[0..input],
         junk(),
         &mut area,
         &mut log,
@@ -224,219 +273,17 @@ fn run_within(calls: &[u64], lower: &[f64], upper: &[f64], input: &[u8], bytes: 
     );
     let last = r.last;
     show(last, point[0], found[0], found[1]);
-    io::write_all(STDOUT_FILENO, b"\n");
-}
-
-// The last answer of a script, with the case's box.
-fn run(calls: &[u64], input: &[u8], bytes: &mut [u8]) {
-    let lower = [-8.0f64];
-    let upper = [8.0f64];
-    run_within(calls, &lower, &upper, input, bytes);
-}
-
-// A script that neither saves nor restores.
-fn plain(calls: &[u64]) {
-    let none = [0u8; 1];
-    let mut bytes = [0u8; 1];
-    run(calls, &none, &mut bytes);
-}
-
-// The case: value, gradient, value, gradient, go on, report.
-fn starred() {
-    let calls = [
-        START,
-        0,
-        0,
-        VALUE,
-        EIGHT,
-        0,
-        GRADIENT,
-        0,
-        1,
-        VALUE,
-        0,
-        0,
-        GRADIENT,
-        1,
-        1,
-        GO_ON,
-        0,
-        0,
-        REPORT,
-        0,
-        0,
-    ];
-    plain(&calls);
-}
-
-// A value taken back and given anew.
-fn taken_back() {
-    let calls = [
-        START,
-        0,
-        0,
-        VALUE,
-        EIGHT,
-        0,
-        GRADIENT,
-        0,
-        1,
-        VALUE,
-        ONE,
-        0,
-        TAKE_BACK,
-        1,
-        0,
-        VALUE,
-        0,
-        0,
-        GRADIENT,
-        1,
-        1,
-        GO_ON,
-        0,
-        0,
-        REPORT,
-        0,
-        0,
-    ];
-    plain(&calls);
-}
-
-// All taken back: the first question is open again.
-fn asked_again() {
-    let calls = [
-        START,
-        0,
-        0,
-        VALUE,
-        EIGHT,
-        0,
-        GRADIENT,
-        0,
-        1,
-        VALUE,
-        ONE,
-        0,
-        TAKE_BACK,
-        3,
-        0,
-        QUESTION,
-        0,
-        0,
-    ];
-    plain(&calls);
-}
-
-// Replies that are not due, a gradient of two words, and more taken back than given.
-fn refusals() {
-    let undue = [START, 0, 0, GO_ON, 0, 0];
-    plain(&undue);
-    let long = [START, 0, 0, VALUE, EIGHT, 0, GRADIENT, 0, 2];
-    plain(&long);
-    let many = [START, 0, 0, VALUE, EIGHT, 0, TAKE_BACK, 2, 0];
-    plain(&many);
-}
-
-// Sides of the box longer than the start: the lower one of three words before the upper one of two, then the upper one alone.
-fn long_sides() {
-    let none = [0u8; 1];
-    let mut bytes = [0u8; 1];
-    let calls = [START, 0, 0];
-    let one = [-8.0f64];
-    let two = [8.0f64; 2];
-    let three = [-8.0f64; 3];
-    run_within(&calls, &three, &two, &none, &mut bytes);
-    run_within(&calls, &one, &two, &none, &mut bytes);
-}
-
-// A refused reply keeps the fit: its entry and its replies are those of before.
-fn kept() {
-    let counted = [START, 0, 0, VALUE, EIGHT, 0, GRADIENT, 0, 2, REPLIES, 0, 0];
-    plain(&counted);
-    let first = [START, 0, 0, VALUE, EIGHT, 0, GRADIENT, 0, 2, ENTRY, 0, 0];
-    plain(&first);
-}
-
-// Calls at no fit, unknown ops, a part out of range and two words too many, before the question.
-fn garbage() {
-    let calls = [
-        99,
-        5,
-        6,
-        VALUE,
-        EIGHT,
-        0,
-        TAKE_BACK,
-        1,
-        0,
-        RESTORE,
-        0,
-        9,
-        RESTORE,
-        0xFFFF_FFFF_FFFF_FFFF,
-        9,
-        REPORT,
-        0,
-        0,
-        START,
-        0,
-        0,
-        QUESTION,
-        0,
-        0,
-        5,
-        5,
-    ];
-    plain(&calls);
-    let none = [START, 0];
-    plain(&none);
-}
-
-// The record of the case, and the fit that is read in from it: its replies, and its report.
-fn there_and_back() {
-    let mut bytes = [0u8; RECORD];
-    let none = [0u8; 1];
-    let calls = [
-        START,
-        0,
-        0,
-        VALUE,
-        EIGHT,
-        0,
-        GRADIENT,
-        0,
-        1,
-        VALUE,
-        0,
-        0,
-        GRADIENT,
-        1,
-        1,
-        GO_ON,
-        0,
-        0,
-        SAVE,
-        0,
-        0,
-    ];
-    run(&calls, &none, &mut bytes);
-    let mut more = [0u8; 1];
-    let counted = [RESTORE, 0, 184, REPLIES, 0, 0];
-    run(&counted, &bytes, &mut more);
-    let report = [RESTORE, 0, 184, REPORT, 0, 0];
-    run(&report, &bytes, &mut more);
-    let cut = [RESTORE, 0, 183];
-    run(&cut, &bytes, &mut more);
 }
 
 fn main() {
-    starred();
-    taken_back();
-    asked_again();
-    refusals();
-    long_sides();
-    kept();
-    garbage();
-    there_and_back();
+    let mut saved = [0u8; RECORD];
+    let mut first = 0;
+    let mut i = 0;
+    while i < 16 {
+        let row = SCRIPTS[i];
+        let record = saved;
+        run(first, row, &record, &mut saved);
+        first = after(first, after(row[0], 2) / 3);
+        i += 1;
+    }
 }

@@ -6,7 +6,8 @@ ghost use lib.Ieee as Ieee;
 ghost use Rattle.definition.specs.Number.{zero64};
 ghost use Rattle.definition.specs.Search.{limited as limitedOf, withLimit, decreases as decreasesOf, flat as flatOf, onFace};
 ghost use Rattle.definition.specs.Search.{following as followingOf, goesOn, nextTrial, orFailed, judge as judgeOf};
-ghost use Rattle.search.specs.State.{searchOf, highOf, limitOf, verdictOf, VerdictSettled};
+ghost use Rattle.definition.specs.Driver.{noSearch};
+ghost use Rattle.search.specs.State.{searchOf, highOf, limitOf, verdictOf, Settled, VerdictSettled};
 
 // The step, the two ends, the slope at the point held and the limit of the step.
 pub struct Step {
@@ -53,6 +54,28 @@ pub struct Limit {
 const SEARCH_TRIALS: usize = 60;
 
 // ---- the start
+
+// The search of a fit that has not begun one.
+pub fn no_search() -> Search
+    ensures { λ r. ⌜ (searchOf r ≡ noSearch) × Settled r ⌝ }
+{
+    let step = Step {
+        alpha: 0.0,
+        low: 0.0,
+        high: 0.0,
+        slope0: 0.0,
+        amax: 0.0,
+    };
+    let trials = Trials {
+        count: 0,
+        face: false,
+        bracketed: false,
+    };
+    Search {
+        step: step,
+        trials: trials,
+    }
+}
 
 // The limit, after a coordinate that meets its bound at a step: an equal step is taken too.
 pub fn limited(distance: f64, limit: Limit) -> Limit

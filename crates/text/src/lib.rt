@@ -7,8 +7,8 @@ ghost use Rattle.question.specs.Reports.{reportOf, written};
 ghost use Rattle.text.specs.Text.{decimal, hexadecimal, xWord, countLine, floatLine, pointLines, reportLines, textOf};
 ghost use Rattle.text.specs.Puts.{Puts, printedAs};
 use lbfgsb::Answer;
+use lbfgsb::Outcome;
 use lbfgsb::Told;
-use question::Outcome;
 
 // ---- bytes and numbers, each from `at` on; where they end
 

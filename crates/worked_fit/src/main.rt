@@ -1,15 +1,12 @@
 // A worked fit through the exported operations: the least of (x - 1)^2 + 10 (y + 1/2)^2 where x is at most 1/2, from (-1, 1).
-use driver::Reply;
-use fit::Fit;
 use lbfgsb::Answer;
 use lbfgsb::Asked;
+use lbfgsb::Fit;
+use lbfgsb::Options;
+use lbfgsb::Outcome;
+use lbfgsb::Reply;
 use lbfgsb::Told;
 use libc::STDOUT_FILENO;
-use problem::MaybeCount;
-use problem::MaybeFloat;
-use problem::Options;
-use problem::Scheme;
-use question::Outcome;
 
 // The area's words for 2 coordinates and the 10 pairs of the default.
 const AREA: usize = 552;
@@ -18,17 +15,9 @@ const LOG: usize = 128;
 
 // A box, and the default for everything else.
 fn options() -> Options {
-    Options {
-        bounded: true,
-        maxiter: MaybeCount::Absent,
-        maxfev: MaybeCount::Absent,
-        tol: MaybeFloat::Absent,
-        ftol: MaybeFloat::Absent,
-        gtol: MaybeFloat::Absent,
-        maxcor: MaybeCount::Absent,
-        eps: MaybeFloat::Absent,
-        scheme: Scheme::Forward,
-    }
+    let mut o = lbfgsb::no_options();
+    o.bounded = true;
+    o
 }
 
 // ---- the objective
@@ -129,7 +118,7 @@ fn main() {
     let x0 = [-1.0f64, 1.0];
     let lower = [-2.0f64, -2.0];
     let upper = [0.5f64, 2.0];
-    let opened = lbfgsb::start(held::empty(), &mut area, options(), &x0, &lower, &upper);
+    let opened = lbfgsb::start(lbfgsb::empty(), &mut area, options(), &x0, &lower, &upper);
     let Answer::Kept(first) = opened else {
         return;
     };

@@ -14,13 +14,9 @@ use Rattle.kernel_cases.proofs.fits.Tie as tie
 never : {P : Type 0} → false ≡ true → P
 never e = let z : _≡_ {A = ℕ} 0 1 = cc in absurd (omega arith)
 
-all-fits : {h : Shape} {words : ℕ} (r : ℕ) → r ≡ (16 + 4 * h .m) * h .n → h .m ≤ 16 → h .pairs ≤ h .m → h .oldest < h .m → leb r words ≡ true → Sound h words
-all-fits {h} {words} r e few most ring t = record {
-  few = few;
-  most = most;
-  ring = ring;
-  all = rw e at (leb-true r words t);
-}
+all-fits : {h : Shape} {words : ℕ} (r : ℕ) → r ≡ (16 + 4 * h .m) * h .n → h .n ≤ 16 → h .m ≤ 16 → h .pairs ≤ h .m → h .oldest < h .m → leb r words ≡ true
+    → Sound h words × (h .n ≤ 16)
+all-fits {h} {words} r e small few most ring t = (record { few = few; most = most; ring = ring; all = rw e at (leb-true r words t) }, small)
 
 pub fits-spec : {M : Type 1} → statement M
 fits-spec =
@@ -33,4 +29,4 @@ fits-spec =
     (λ c. search needs)
     (λ c. search needs)
     (λ c κs. search needs)
-    (λ c. all-fits (c .vectors .result) (c .vectors .ensures) (omega arith) (omega arith) (omega arith)))
+    (λ c. all-fits (c .vectors .result) (c .vectors .ensures) (omega arith) (omega arith) (omega arith) (omega arith)))

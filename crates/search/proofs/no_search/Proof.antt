@@ -1,8 +1,8 @@
--- `opening::no_search` meets its contract. Assumes nothing.
+-- `search::no_search` meets its contract. Assumes nothing.
 use mathlib.Core.Path.{refl}
 use lib.Ieee.{ofBits}
-use Rattle.opening.proofs.no_search.Statement.{statement}
-use Rattle.opening.proofs.no_search.Tie as tie
+use Rattle.search.proofs.no_search.Statement.{statement}
+use Rattle.search.proofs.no_search.Tie as tie
 
 returns : tie.Need-returns
 unfolding ofBits
