@@ -24,7 +24,6 @@ use Rattle.fit.specs.declared.Fit.{Fit}
 use Rattle.opening.specs.Opened.{setupAt, Opened}
 use Rattle.held.specs.Test.{marked, isReady, isHeld, Marks}
 use Rattle.held.proofs.Test.{ready-facts, held-ready, is-held, marked-machine, run-ready}
-use Rattle.driver.specs.declared.Reply.{Reply}
 use Rattle.held.specs.Words.{words, Held}
 
 -- ---- the setup that state and area hold

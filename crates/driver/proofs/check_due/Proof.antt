@@ -13,14 +13,14 @@ returns : tie.Need-returns
 returns c =
     λ v ws e.
     let a = c .before .before .before .args in
-    let said = c .before .suits .ensures ws ∙ ap (λ (k : ℕ). suits k (replied (a .reply) ws)) (c .before .before .kind-of .ensures) in
+    let said = c .before .suits .ensures ws ∙ ap (λ (k : ℕ). suits k (replied (a .reply) ws)) (c .before .before .question-kind .ensures) in
     sym (due-by-kind (machine (a .fit) v) (a .reply) ws e (sym said ∙ c .if1 .taken))
 
 returns-2 : tie.Need-returns-2
 returns-2 c =
     λ v ws e.
     let a = c .before .before .before .before .args in
-    let said = c .before .before .suits .ensures ws ∙ ap (λ (k : ℕ). suits k (replied (a .reply) ws)) (c .before .before .before .kind-of .ensures) in
+    let said = c .before .before .suits .ensures ws ∙ ap (λ (k : ℕ). suits k (replied (a .reply) ws)) (c .before .before .before .question-kind .ensures) in
     c .refused .ensures ∙ sym (undue-by-kind (machine (a .fit) v) (replied (a .reply) ws) (sym said ∙ c .before .if1 .left))
 
 pub check-due-spec : {M : Type 1} → statement M

@@ -11,7 +11,7 @@ on-probe-requires : tie.Need-on-probe-requires
 on-probe-requires c κs =
     let h = c .before .before .before in
     let s = h .before .before .before in
-    (s .pre .0, probe-within _ _ _ (h .p2 .given .1) (s .pre .1))
+    (s .pre .0, probe-within _ _ _ (h .phase2 .given .1) (s .pre .1))
 
 returns : tie.Need-returns
 returns c =
@@ -22,7 +22,7 @@ returns-2 : tie.Need-returns-2
 returns-2 c =
     let k = c .before .before in
     let b = k .before .before in
-    in-phase (R.Value _) (Probe _ _ _) (k .on-probe .ensures) (b .before .before .p2 .given .1) (λ m. probe-as _ _ _ m (b .word-to-float2 .ensures))
+    in-phase (R.Value _) (Probe _ _ _) (k .on-probe .ensures) (b .before .before .phase2 .given .1) (λ m. probe-as _ _ _ m (b .word-to-float2 .ensures))
 
 returns-3 : tie.Need-returns-3
 returns-3 c = in-phase (R.Value _) (Gradient _) at-rest (c .enum-told .given .1) (λ m. refl)
