@@ -1,12 +1,14 @@
 // The working area: one lent slice, in which vector k of n words stands at offset k * n.
 ghost use mathlib.Core.Path.{_≡_};
 ghost use Prim.Native.Nat.{_+_, _*_, _≤_, _<_};
-ghost use lib.ListN.{length};
+ghost use mathlib.Core.List.{map};
+ghost use lib.ListN.{length, take, drop};
+ghost use Rattle.definition.specs.Number.{toFloat};
 ghost use lib.Ieee.Scale.{finite};
 ghost use mathlib.Core.Bool.{_&&_};
 ghost use Rattle.definition.specs.Vector.{dot as dotOf, allFinite};
 ghost use Rattle.definition.specs.Problem.{areaWords};
-ghost use Rattle.area.specs.Area.{view, upd, wordsAt, putWord, copyOf, fillOf, differenceOf};
+ghost use Rattle.area.specs.Area.{view, upd, wordsAt, putWord, copyOf, fillOf, differenceOf, firstPair, TrialGradient};
 
 // Vectors 0 to 7, and those of the pairs from FIRST_PAIR on, stay from call to call. 8 to 11 are scratch: whoever reads one has
 // written it in the same call. 12 to 15 are free: no step, replay or opening writes them, so that they pass through every call
@@ -115,6 +117,18 @@ pub fn store(area: &mut [f64], n: usize, p: usize, v: &[f64])
     let mut i = 0;
     while i < n {
         area[to + i] = v[i];
+        i += 1;
+    }
+}
+
+// n words from `from` on, as the trial's gradient.
+pub fn store_gradient(area: &mut [f64], n: usize, words: &[u64], from: usize)
+    requires { ⌜ (firstPair * n ≤ length (now area)) × (from + n ≤ length (now words)) ⌝ }
+    ensures { λ _. ⌜ view (now (area .exit)) n ≡ upd (view (now (area .entry)) n) TrialGradient (map toFloat (take n (drop from (now (words .entry))))) ⌝ }
+{
+    let mut i = 0;
+    while i < n {
+        area[TRIAL_GRADIENT * n + i] = float::word_to_float(words[from + i]);
         i += 1;
     }
 }

@@ -1,5 +1,5 @@
 -- The definition's machine, read off a fit and the vectors of its area.
-use Prim.Native.Nat.{ℕ}
+use Prim.Native.Nat.{ℕ, _+_, _^_}
 use mathlib.Core.Path.{_≡_}
 use mathlib.Core.List.{List}
 use lib.Ieee.{Float}
@@ -11,6 +11,7 @@ use Rattle.counters.specs.Counts.{countersOf, terminationOf}
 use Rattle.search.specs.State.{searchOf, Settled}
 use Rattle.compact.specs.State.{pairsOf, Sound}
 use Rattle.area.specs.Area.{Vecs, view, Saved, X, G, Lower, Upper, Trial, TrialGradient, Direction}
+use Rattle.fit.specs.declared.Extra.{Extra}
 use Rattle.fit.specs.declared.Fit.{Fit}
 use Rattle.fit.specs.declared.Place.{Place}
 use Rattle.fit.specs.declared.Place.the-variants as W
@@ -104,11 +105,18 @@ withPhase p t = record {
 
 -- the log's numbers are not near where a sum would wrap
 abbrev pub mostWords : ℕ
-mostWords = 0x0100_0000_0000_0000
+mostWords = 2 ^ 56
 
--- another number of entries kept, and of their words
-abbrev pub withLog : ℕ → ℕ → Fit → Fit
-withLog entries words t = record {
+-- how many numbers a usize has
+abbrev pub usizes : ℕ
+usizes = 2 ^ 64
+
+-- one more entry kept, of l words
+abbrev pub moreKept : Extra → ℕ → Extra
+moreKept x l = record { entries = x .entries + 1; words = x .words + l }
+
+abbrev pub withExtra : Extra → Fit → Fit
+withExtra x t = record {
   shape = t .shape;
   options = t .options;
   limits = t .limits;
@@ -120,5 +128,5 @@ withLog entries words t = record {
   «right_value» = t .«right_value»;
   «value_before» = t .«value_before»;
   theta = t .theta;
-  extra = record { entries = entries; words = words };
+  extra = x;
 }

@@ -4,7 +4,7 @@ ghost use Prim.Native.Nat.{_+_, _<_};
 ghost use Rattle.definition.specs.Machine.{kindOf, ending};
 ghost use Rattle.definition.specs.Driver.{askValue, valued as valuedOf};
 ghost use Rattle.counters.specs.Counts.{terminationOf};
-ghost use Rattle.fit.specs.State.{withPhase, withLog, mostWords, phaseOf, placeOf, Turns};
+ghost use Rattle.fit.specs.State.{withPhase, usizes, moreKept, withExtra, phaseOf, placeOf, Turns};
 use compact::Shape;
 use counters::Charge;
 use counters::Counters;
@@ -135,15 +135,27 @@ pub fn valued(fit: Fit, place: Place, value: f64) -> Fit
     }
 }
 
-// One more entry of the log is kept, of `length` words.
-pub fn counted(fit: Fit, length: usize) -> Fit
-    requires { ⌜ (fit .extra .entries < mostWords) × (fit .extra .words < mostWords) × (length < mostWords) ⌝ }
-    ensures { λ r. ⌜ r ≡ withLog (fit .extra .entries + 1) (fit .extra .words + length) fit ⌝ }
+// ---- the log's numbers
+
+// One more entry is kept, of `length` words.
+pub fn one_more(extra: Extra, length: usize) -> Extra
+    requires { ⌜ (extra .entries + 1 < usizes) × (extra .words + length < usizes) ⌝ }
+    ensures { λ r. ⌜ r ≡ moreKept extra length ⌝ }
 {
-    let mut extra = fit.extra;
-    extra.entries = fit.extra.entries + 1;
-    extra.words = fit.extra.words + length;
+    Extra {
+        entries: extra.entries + 1,
+        words: extra.words + length,
+    }
+}
+
+// The fit with one more entry kept.
+pub fn counted(fit: Fit, length: usize) -> Fit
+    requires { ⌜ (fit .extra .entries + 1 < usizes) × (fit .extra .words + length < usizes) ⌝ }
+    ensures { λ r. ⌜ r ≡ withExtra (moreKept (fit .extra) length) fit ⌝ }
+{
+    let extra = fit.extra;
+    let more = one_more(extra, length);
     let mut next = fit;
-    next.extra = extra;
+    next.extra = more;
     next
 }

@@ -13,15 +13,11 @@ use Rattle.definition.specs.Machine as M
 use Rattle.definition.specs.Driver as D
 use Rattle.definition.specs.Driver.{move, learn, valued}
 use Rattle.definition.proofs.Leads.{Leads, Known, answer-leads}
-use Rattle.definition.proofs.Probed.{InRange}
 use Rattle.area.specs.Area.{Vecs, view, upd, TrialGradient}
 use Rattle.fit.specs.State.{machine, machineOf, phaseOf, Steps}
 use Rattle.fit.specs.declared.Fit.{Fit}
-use Rattle.fit.specs.declared.Phase.{Phase}
-use Rattle.fit.specs.declared.Phase.the-variants.{Value, Gradient, Probe, Notice, Ended}
 use Rattle.area.proofs.Laws.{saved-refl, saved-upd}
 use Rattle.fit.proofs.Laws.{put, steps-as, steps-at}
-use Rattle.question.specs.Reports.{Within}
 use Rattle.driver.specs.Replies.{advanced}
 use Rattle.driver.specs.declared.Reply.{Reply}
 use Rattle.driver.specs.declared.Reply.the-variants as R
@@ -30,13 +26,6 @@ use Rattle.driver.proofs.Steps.{gradient-answered}
 use Rattle.replay.specs.Taken.{replied, isDue}
 
 -- ---- the terms stay
-
-in-range : (p : Phase) (n : ℕ) → Within p n → InRange (phaseOf p) n
-in-range (Value w) n h = tt
-in-range (Gradient w) n h = tt
-in-range (Probe w i s) n h = h
-in-range Notice n h = tt
-in-range (Ended t) n h = tt
 
 module _ (T : Terms) where
   abbrev Has : M.Machine → Type 0
@@ -65,7 +54,7 @@ module _ (T : Terms) where
   valued-has M.Place.start v m h = h
   valued-has M.Place.trial v m h = h
 
-  known : (r : M.Reply) (m : M.Machine) → Has m → (p : M.Phase) → InRange p (m .terms .n) → Known (λ w. Has) Has Has r m p
+  known : (r : M.Reply) (m : M.Machine) → Has m → (p : M.Phase) → M.InRange p (m .terms .n) → Known (λ w. Has) Has Has r m p
   known r m h (M.Phase.value w) k = record {
     value = λ v e q. valued-has w (toFloat v) m h;
     nonfinite = λ v e q. valued-has w (toFloat v) m h;
@@ -76,12 +65,12 @@ module _ (T : Terms) where
   known r m h M.Phase.notice k = h
   known r m h (M.Phase.ended t) k = tt
 
-pub terms-stay : (t : Fit) (v : Vecs) (r : M.Reply) → Within (t .phase) (t .shape .n) → M.takes (machine t v) r ≡ true
+pub terms-stay : (t : Fit) (v : Vecs) (r : M.Reply) → M.InRange (phaseOf (t .phase)) (t .shape .n) → M.takes (machine t v) r ≡ true
     → D.answer (machine t v) r .terms ≡ machine t v .terms
 terms-stay t v r h d =
     let m = machine t v in
     answer-leads (leads (m .terms)) m r d
-    (λ p e. known (m .terms) r m refl p (subst (λ (q : M.Phase). InRange q (t .shape .n)) e (in-range (t .phase) (t .shape .n) h)))
+    (λ p e. known (m .terms) r m refl p (subst (λ (q : M.Phase). M.InRange q (t .shape .n)) e h))
 
 -- ---- the driver's step is the definition's answer
 

@@ -26,18 +26,16 @@ use Rattle.problem.specs.declared.Refusal.{Refusal}
 use Rattle.problem.specs.declared.Checked.{Checked}
 use Rattle.problem.specs.declared.Checked.the-variants as C
 use Rattle.search.specs.State.{Settled}
-use Rattle.fit.specs.State.{machineOf, phaseOf, Steps}
+use Rattle.fit.specs.State.{machineOf, phaseOf, mostWords, moreKept, withExtra, Steps}
 use Rattle.fit.specs.declared.Extra.{Extra}
 use Rattle.fit.specs.declared.Fit.{Fit}
-use Rattle.question.specs.Reports.{Within}
-use Rattle.fit.specs.State.{mostWords}
 use Rattle.held.specs.Test.{shapeHeld, isReady}
 use Rattle.driver.specs.declared.Reply.{Reply}
 use Rattle.held.proofs.Test.{ready-facts, shape-again, few-ready, log-few}
 use Rattle.driver.proofs.Steps.{suits-any, due-by-kind, DueSaid}
 use Rattle.replay.specs.declared.Replayed.{Replayed}
 use Rattle.replay.specs.declared.Replayed.the-variants.{Done, Refused}
-use Rattle.replay.specs.Replays.{withLog, oneMore, afterEntries, firstEntries, Replayable, ReplayedTo, Replays}
+use Rattle.replay.specs.Replays.{oneMore, afterEntries, firstEntries, Replayable, ReplayedTo, Replays}
 use Rattle.replay.specs.Taken.{replied, gradientAt, Reads, isDue, admission, Took, RefusedBy, NextIs, Run}
 use Rattle.replay.proofs.Entries.{reads-count, due-checked, next-bad, next-undue, next-short, next-going}
 use Rattle.replay.proofs.Answers.{terms-stay}
@@ -127,9 +125,9 @@ module _ (t : Fit) (a : List Float) (ws : List ℕ) (room : ℕ) (here : t .extr
         go false due short f g k e = rw e (record { code = inl refl; next = λ ready rs w. absurd (true≢false (sym ready ∙ f)) })
 
     -- an entry that is taken, and counted
-    pub took-by : {f g : Fit} {b : List Float} → Sound (t .shape) (length a) → shapeHeld (t .shape) (length a) ≡ true → Within (t .phase) (t .shape .n)
+    pub took-by : {f g : Fit} {b : List Float} → Sound (t .shape) (length a) → shapeHeld (t .shape) (length a) ≡ true → M.InRange (phaseOf (t .phase)) (t .shape .n)
         → isDue t r ≡ true → t .extra .words + l ≤ room → length b ≡ length a → Steps (λ (m : M.Machine). D.answer m reply) t a f b
-        → g ≡ withLog (f .extra .entries + 1) (f .extra .words + l) f → Took t a ws room g b
+        → g ≡ withExtra (moreKept (f .extra) l) f → Took t a ws room g b
     took-by {f} {g} {b} all held within due fits size s e =
         let sound : Sound (f .shape) (length b) = rw size (s .sound (length a) all) in
         let takes = takes-due ∙ due in
@@ -159,7 +157,7 @@ module _ (t : Fit) (a : List Float) (ws : List ℕ) (room : ℕ) (here : t .extr
         })
 
     pub took : {f g : Fit} {b : List Float} → Admitted t (length a) r l room → length b ≡ length a → Steps (λ (m : M.Machine). D.answer m reply) t a f b
-        → g ≡ withLog (f .extra .entries + 1) (f .extra .words + l) f → Took t a ws room g b
+        → g ≡ withExtra (moreKept (f .extra) l) f → Took t a ws room g b
     took k size s e =
         let ready = ready-facts t (length a) (k .ready) in
         took-by (ready .ready .sound) (ready .shape) (ready .within) (k .due) (k .fits) size s e

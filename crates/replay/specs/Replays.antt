@@ -34,23 +34,6 @@ pub record Within (s : Source) (log bs : List ℕ) : Type 0 where
   pub logged : s .recorded ≡ false → s .words ≤ length log
   pub recorded : s .recorded ≡ true → s .at + 8 * s .words ≤ length bs
 
--- another number of entries kept, and of their words
-abbrev pub withLog : ℕ → ℕ → Fit → Fit
-withLog entries words t = record {
-  shape = t .shape;
-  options = t .options;
-  limits = t .limits;
-  counters = t .counters;
-  phase = t .phase;
-  search = t .search;
-  value = t .value;
-  «trial_value» = t .«trial_value»;
-  «right_value» = t .«right_value»;
-  «value_before» = t .«value_before»;
-  theta = t .theta;
-  extra = record { entries = entries; words = words };
-}
-
 -- ---- a replay
 
 -- every fit on the way passes the held test: the setup is accepted, or the words are few

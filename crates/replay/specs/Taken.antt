@@ -15,19 +15,17 @@ use Rattle.definition.specs.Log.{Entries, entryOf, entryWords, logWords, nextEn
 use Rattle.area.specs.Area.{view, Saved}
 use Rattle.compact.specs.State.{Sound}
 use Rattle.search.specs.State.{Settled}
-use Rattle.fit.specs.State.{machineOf, phaseOf}
+use Rattle.fit.specs.State.{machineOf, phaseOf, moreKept}
 use Rattle.fit.specs.declared.Fit.{Fit}
-use Rattle.fit.specs.declared.Place.{Place}
 use Rattle.differences.specs.declared.Probing.{Probing}
-use Rattle.differences.specs.declared.Turned.{Turned}
-use Rattle.differences.specs.declared.Turned.the-variants.{Stays, On}
-use Rattle.differences.specs.Runs.{probing}
 use Rattle.held.specs.Test.{shapeHeld, isReady}
 pub use Rattle.driver.specs.Replies.{replied}
 use Rattle.driver.specs.declared.Reply.{Reply}
 use Rattle.driver.specs.declared.Reply.the-variants as R
 use Rattle.replay.specs.declared.Entry.{Entry}
 use Rattle.replay.specs.declared.Entry.the-variants.{Bad, Is}
+use Rattle.replay.specs.declared.Said.{Said}
+use Rattle.replay.specs.declared.Said.the-variants.{Other, Value}
 use Rattle.replay.specs.declared.Replayed.{Replayed}
 use Rattle.replay.specs.declared.Replayed.the-variants.{Done, Refused}
 
@@ -117,14 +115,18 @@ pub data Run (ws : List ℕ) (limit room : ℕ) (t : Fit) (a : List Float) : Fit
       → Took f b ws room g d
       → Run ws limit room t a g d
 
--- another number of entries kept, and of their words, at a probe
-abbrev pub logged : ℕ → ℕ → Probing → Probing
-logged entries words q = record { i = q .i; side = q .side; right = q .right; counters = q .counters; extra = record { entries = entries; words = words } }
+-- ---- a value at a probe
 
--- the entry at the probe q of t is left, or it is taken and the next probe is asked, for each place alike
-abbrev pub TakenBy : Fit → Probing → List Float → List ℕ → ℕ → ℕ → Turned → List Float → Type 0
-TakenBy t q a ws limit room Stays b = b ≡ a
-TakenBy t q a ws limit room (On r) b = (r .i < t .shape .n) × (q .extra .entries < limit) × ((w : Place) → Took (probing w q t) a ws room (probing w r t) b)
+-- the probe q with one more entry kept, of l words
+abbrev pub logged : ℕ → Probing → Probing
+logged l q = record { i = q .i; side = q .side; «right_value» = q .«right_value»; counters = q .counters; extra = moreKept (q .extra) l }
 
-pub record TakenIs (t : Fit) (q : Probing) (a : List Float) (ws : List ℕ) (limit room : ℕ) (r : Turned) (b : List Float) : Type 0 where
-  pub is : TakenBy t q a ws limit room r b
+-- the entry at the probe q is the value v, in l words, which the limit and the room let pass
+pub record Offered (n : ℕ) (ws : List ℕ) (q : Probing) (limit room v l : ℕ) : Type 0 where
+  pub reads : Reads n ws (q .extra .words) (R.Value v) l
+  pub few : q .extra .entries < limit
+  pub fits : q .extra .words + l ≤ room
+
+abbrev pub SaidIs : ℕ → List ℕ → Probing → ℕ → ℕ → Said → Type 0
+SaidIs n ws q limit room Other = Unit {0}
+SaidIs n ws q limit room (Value v l) = Offered n ws q limit room v l

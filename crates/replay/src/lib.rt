@@ -10,15 +10,14 @@ ghost use Rattle.definition.specs.Problem.{mostCoordinates};
 ghost use Rattle.definition.specs.Driver.{answer};
 ghost use Rattle.definition.specs.Record.{wordsOf};
 ghost use Rattle.area.specs.Area.{view, upd, firstPair, TrialGradient};
-ghost use Rattle.fit.specs.State.{Steps};
-ghost use Rattle.compact.specs.State.{Sound};
-ghost use Rattle.differences.specs.Runs.{probing};
-ghost use Rattle.fit.specs.State.{mostWords};
+ghost use Rattle.fit.specs.State.{usizes, Steps};
+ghost use Rattle.fit.specs.Ready.{Ready};
+ghost use Rattle.differences.specs.Probing.{probing};
 ghost use Rattle.held.specs.Test.{shapeHeld, isReady};
-ghost use Rattle.replay.specs.Replays.{sourceWords, Within, withLog, Replays};
-ghost use Rattle.replay.specs.Taken.{replied, sizeOf, kindReply, gradientAt, EntryIs, isDue, admission, NextIs, Run, TakenIs};
+ghost use Rattle.replay.specs.Replays.{sourceWords, Within, Replays};
+ghost use Rattle.replay.specs.Taken.{replied, sizeOf, kindReply, gradientAt, EntryIs, isDue, admission, NextIs, Run, SaidIs, logged as loggedBy};
+use differences::Next;
 use differences::Probing;
-use differences::Turned;
 use driver::Reply;
 use fit::Fit;
 use fit::Phase;
@@ -38,6 +37,12 @@ pub enum Entry {
     Is(Reply, usize),
 }
 
+// What stands where a probe is asked: the value, with the words of its entry, or anything else.
+enum Said {
+    Other,
+    Value(u64, usize),
+}
+
 pub enum Replayed {
     Done(Fit),
     Refused(usize),
@@ -50,29 +55,17 @@ const NO_ROOM: usize = 12;
 
 // ---- words
 
-fn source_word(s: Source, log: &[u64], input: &[u8], i: usize) -> u64
-    requires { ⌜ Within s (now log) (now input) × (i < s .words) ⌝ }
-    ensures { λ r. ⌜ r ≡ getD (sourceWords s (now (log .entry)) (now (input .entry))) i 0 ⌝ }
+fn source_word(source: Source, log: &[u64], input: &[u8], i: usize) -> u64
+    requires { ⌜ Within source (now log) (now input) × (i < source .words) ⌝ }
+    ensures { λ r. ⌜ r ≡ getD (sourceWords source (now (log .entry)) (now (input .entry))) i 0 ⌝ }
 {
-    if s.recorded {
-        return record::word_at(input, s.at + 8 * i);
+    if source.recorded {
+        return record::word_at(input, source.at + 8 * i);
     }
     log[i]
 }
 
-// n words from `from` on, as the trial's gradient.
-pub fn store_words(area: &mut [f64], n: usize, words: &[u64], from: usize)
-    requires { ⌜ (firstPair * n ≤ length (now area)) × (from + n ≤ length (now words)) ⌝ }
-    ensures { λ _. ⌜ view (now (area .exit)) n ≡ upd (view (now (area .entry)) n) TrialGradient (map toFloat (take n (drop from (now (words .entry))))) ⌝ }
-{
-    let mut i = 0;
-    while i < n {
-        area[area::TRIAL_GRADIENT * n + i] = float::word_to_float(words[from + i]);
-        i += 1;
-    }
-}
-
-// The same from a record's bytes.
+// n words of a record's bytes, as the trial's gradient.
 fn store_bytes(area: &mut [f64], n: usize, input: &[u8], at: usize)
     requires { ⌜ (firstPair * n ≤ length (now area)) × (at + 8 * n ≤ length (now input)) ⌝ }
     ensures { λ _. ⌜ view (now (area .exit)) n ≡ upd (view (now (area .entry)) n) TrialGradient (map toFloat (wordsOf n (drop at (now (input .entry))))) ⌝ }
@@ -87,14 +80,21 @@ fn store_bytes(area: &mut [f64], n: usize, input: &[u8], at: usize)
     }
 }
 
-fn store_gradient(area: &mut [f64], n: usize, s: Source, log: &[u64], input: &[u8], from: usize)
-    requires { ⌜ (firstPair * n ≤ length (now area)) × Within s (now log) (now input) × (from + n ≤ s .words) ⌝ }
-    ensures { λ _. ⌜ view (now (area .exit)) n ≡ upd (view (now (area .entry)) n) TrialGradient (map toFloat (take n (drop from (sourceWords s (now (log .entry)) (now (input .entry)))))) ⌝ }
+fn store_gradient(
+    area: &mut [f64],
+    n: usize,
+    source: Source,
+    log: &[u64],
+    input: &[u8],
+    from: usize,
+)
+    requires { ⌜ (firstPair * n ≤ length (now area)) × Within source (now log) (now input) × (from + n ≤ source .words) ⌝ }
+    ensures { λ _. ⌜ view (now (area .exit)) n ≡ upd (view (now (area .entry)) n) TrialGradient (map toFloat (take n (drop from (sourceWords source (now (log .entry)) (now (input .entry)))))) ⌝ }
 {
-    if s.recorded {
-        store_bytes(area, n, input, s.at + 8 * from);
+    if source.recorded {
+        store_bytes(area, n, input, source.at + 8 * from);
     } else {
-        store_words(area, n, log, from);
+        area::store_gradient(area, n, log, from);
     }
 }
 
@@ -120,218 +120,217 @@ fn reply_of(kind: u64) -> Reply
 }
 
 // The entry at word `at`: bad where it is unknown or cut.
-fn entry_at(n: usize, s: Source, log: &[u64], input: &[u8], at: usize) -> Entry
-    requires { ⌜ Within s (now log) (now input) × (at < s .words) × (n ≤ mostCoordinates) ⌝ }
-    ensures { λ r. ⌜ EntryIs n (sourceWords s (now (log .entry)) (now (input .entry))) at r ⌝ }
+fn entry_at(n: usize, source: Source, log: &[u64], input: &[u8], at: usize) -> Entry
+    requires { ⌜ Within source (now log) (now input) × (at < source .words) × (n ≤ mostCoordinates) ⌝ }
+    ensures { λ r. ⌜ EntryIs n (sourceWords source (now (log .entry)) (now (input .entry))) at r ⌝ }
 {
-    let kind = source_word(s, log, input, at);
+    let kind = source_word(source, log, input, at);
     let length = record::entry_length(kind, n);
     if length == 0 {
         return Entry::Bad;
     }
-    if s.words - at < length {
+    if source.words - at < length {
         return Entry::Bad;
     }
     if kind == 1 {
-        return Entry::Is(Reply::Value(source_word(s, log, input, at + 1)), length);
+        return Entry::Is(
+            Reply::Value(source_word(source, log, input, at + 1)),
+            length,
+        );
     }
     Entry::Is(reply_of(kind), length)
 }
 
 // 0 where the reply is due and has room in a log of `room` words, else the refusal.
-fn admitted(t: Fit, size: usize, r: Reply, length: usize, room: usize) -> usize
-    ensures { λ c. ⌜ c ≡ admission (isReady t size && isDue t r) (ltb room (t .extra .words + length)) ⌝ }
+fn admitted(fit: Fit, size: usize, reply: Reply, length: usize, room: usize) -> usize
+    ensures { λ c. ⌜ c ≡ admission (isReady fit size && isDue fit reply) (ltb room (fit .extra .words + length)) ⌝ }
 {
-    if !held::is_ready(t, size) {
+    if !held::is_ready(fit, size) {
         return BAD_ENTRY;
     }
-    let due = driver::check_due(t, r);
+    let due = driver::check_due(fit, reply);
     let Checked::Passed = due else {
         return BAD_ENTRY;
     };
-    if room < t.extra.words {
+    if room < fit.extra.words {
         return NO_ROOM;
     }
-    if room - t.extra.words < length {
+    if room - fit.extra.words < length {
         return NO_ROOM;
     }
     0
 }
 
-// One more entry is kept.
-pub fn counted(t: Fit, length: usize) -> Fit
-    requires { ⌜ (t .extra .entries < mostWords) × (t .extra .words < mostWords) × (length < mostWords) ⌝ }
-    ensures { λ r. ⌜ r ≡ withLog (t .extra .entries + 1) (t .extra .words + length) t ⌝ }
-{
-    let mut extra = t.extra;
-    extra.entries = t.extra.entries + 1;
-    extra.words = t.extra.words + length;
-    let mut f = t;
-    f.extra = extra;
-    f
-}
-
 // The fit advanced by an entry that is due.
-fn take_entry(t: Fit, area: &mut [f64], s: Source, log: &[u64], input: &[u8], r: Reply) -> Fit
-    requires { ⌜ Within s (now log) (now input) × (isReady t (length (now area)) ≡ true) × (isDue t r ≡ true) × (t .extra .words + sizeOf r (t .shape .n) ≤ s .words) ⌝ }
-    ensures { λ f. ⌜ Steps (λ m. answer m (replied r (gradientAt (t .shape .n) (sourceWords s (now (log .entry)) (now (input .entry))) (t .extra .words)))) t (now (area .entry)) f (now (area .exit)) ⌝ }
+fn take_entry(
+    fit: Fit,
+    area: &mut [f64],
+    source: Source,
+    log: &[u64],
+    input: &[u8],
+    reply: Reply,
+) -> Fit
+    requires { ⌜ Within source (now log) (now input) × (isReady fit (length (now area)) ≡ true) × (isDue fit reply ≡ true) × (fit .extra .words + sizeOf reply (fit .shape .n) ≤ source .words) ⌝ }
+    ensures { λ f. ⌜ Steps (λ m. answer m (replied reply (gradientAt (fit .shape .n) (sourceWords source (now (log .entry)) (now (input .entry))) (fit .extra .words)))) fit (now (area .entry)) f (now (area .exit)) ⌝ }
 {
-    let Reply::Gradient = r else {
-        return driver::advance(t, area, r);
+    let Reply::Gradient = reply else {
+        return driver::advance(fit, area, reply);
     };
-    store_gradient(area, t.shape.n, s, log, input, t.extra.words + 1);
-    driver::advance(t, area, r)
+    store_gradient(area, fit.shape.n, source, log, input, fit.extra.words + 1);
+    driver::advance(fit, area, reply)
 }
 
 // The next entry, of a log with `room` words.
 fn replay_entry(
-    t: Fit,
+    fit: Fit,
     area: &mut [f64],
-    s: Source,
+    source: Source,
     log: &[u64],
     input: &[u8],
     room: usize,
 ) -> Replayed
-    requires { ⌜ Within s (now log) (now input) × (t .extra .words < s .words) × (t .shape .n ≤ mostCoordinates) ⌝ }
-    ensures { λ r. ⌜ NextIs t (now (area .entry)) (sourceWords s (now (log .entry)) (now (input .entry))) room r (now (area .exit)) ⌝ }
+    requires { ⌜ Within source (now log) (now input) × (fit .extra .words < source .words) × (fit .shape .n ≤ mostCoordinates) ⌝ }
+    ensures { λ r. ⌜ NextIs fit (now (area .entry)) (sourceWords source (now (log .entry)) (now (input .entry))) room r (now (area .exit)) ⌝ }
 {
-    let entry = entry_at(t.shape.n, s, log, input, t.extra.words);
-    let Entry::Is(r, length) = entry else {
+    let entry = entry_at(fit.shape.n, source, log, input, fit.extra.words);
+    let Entry::Is(reply, length) = entry else {
         return Replayed::Refused(BAD_ENTRY);
     };
-    let code = admitted(t, area.len(), r, length, room);
+    let code = admitted(fit, area.len(), reply, length, room);
     if code != 0 {
         return Replayed::Refused(code);
     }
-    let f = take_entry(t, area, s, log, input, r);
-    Replayed::Done(counted(f, length))
+    let next = take_entry(fit, area, source, log, input, reply);
+    Replayed::Done(fit::counted(next, length))
 }
 
 // ---- a run of probes
 
-// The entry at the probe q, where it leads to the next probe.
-fn probe_entry(
-    t: Fit,
-    q: Probing,
-    area: &mut [f64],
-    s: Source,
+// The value at the probe, where one stands that limit and room let pass.
+fn value_at(
+    n: usize,
+    probe: Probing,
+    source: Source,
     log: &[u64],
     input: &[u8],
     limit: usize,
     room: usize,
-) -> Turned
-    requires { ⌜ Within s (now log) (now input) × (q .extra .words < s .words) × (t .shape .n ≤ mostCoordinates) × Sound (t .shape) (length (now area)) × (shapeHeld (t .shape) (length (now area)) ≡ true) × (q .i < t .shape .n) ⌝ }
-    ensures { λ r. ⌜ TakenIs t q (now (area .entry)) (sourceWords s (now (log .entry)) (now (input .entry))) limit room r (now (area .exit)) ⌝ }
+) -> Said
+    requires { ⌜ Within source (now log) (now input) × (probe .extra .words < source .words) × (n ≤ mostCoordinates) ⌝ }
+    ensures { λ r. ⌜ SaidIs n (sourceWords source (now (log .entry)) (now (input .entry))) probe limit room r ⌝ }
 {
-    let entry = entry_at(t.shape.n, s, log, input, q.extra.words);
-    let Entry::Is(r, length) = entry else {
-        return Turned::Stays;
-    };
-    let Reply::Value(v) = r else {
-        return Turned::Stays;
-    };
-    if limit <= q.extra.entries {
-        return Turned::Stays;
+    if limit <= probe.extra.entries {
+        return Said::Other;
     }
-    if room < q.extra.words {
-        return Turned::Stays;
-    }
-    if room - q.extra.words < length {
-        return Turned::Stays;
-    }
-    let next = differences::next_probe(t, q, float::word_to_float(v), area);
-    let Turned::On(p) = next else {
-        return Turned::Stays;
+    let entry = entry_at(n, source, log, input, probe.extra.words);
+    let Entry::Is(reply, length) = entry else {
+        return Said::Other;
     };
-    let mut extra = p.extra;
-    extra.entries = q.extra.entries + 1;
-    extra.words = q.extra.words + length;
-    let mut f = p;
-    f.extra = extra;
-    Turned::On(f)
+    let Reply::Value(word) = reply else {
+        return Said::Other;
+    };
+    if room < probe.extra.words {
+        return Said::Other;
+    }
+    if room - probe.extra.words < length {
+        return Said::Other;
+    }
+    Said::Value(word, length)
 }
 
-// Entries that lead from probe to probe, from the probe `first` on; the fit is put together once, at the end.
+// The probe with one more entry kept.
+fn logged(probe: Probing, length: usize) -> Probing
+    requires { ⌜ (probe .extra .entries + 1 < usizes) × (probe .extra .words + length < usizes) ⌝ }
+    ensures { λ r. ⌜ r ≡ loggedBy length probe ⌝ }
+{
+    let extra = probe.extra;
+    let more = fit::one_more(extra, length);
+    let mut next = probe;
+    next.extra = more;
+    next
+}
+
+// Values from probe to probe, from the probe `first` on, up to the one that completes the gradient or ends the fit. Only the numbers
+// of the probe change on the way; the fit is put together once.
 fn run_probes(
-    t: Fit,
-    w: Place,
+    fit: Fit,
+    place: Place,
     first: Probing,
     area: &mut [f64],
-    s: Source,
+    source: Source,
     log: &[u64],
     input: &[u8],
     limit: usize,
     room: usize,
 ) -> Fit
-    requires { ⌜ Within s (now log) (now input) × (t .shape .n ≤ mostCoordinates) × Sound (t .shape) (length (now area)) × (shapeHeld (t .shape) (length (now area)) ≡ true) × (first .i < t .shape .n) × (t ≡ probing w first t) ⌝ }
-    ensures { λ r. ⌜ Run (sourceWords s (now (log .entry)) (now (input .entry))) limit room t (now (area .entry)) r (now (area .exit)) ⌝ }
+    requires { ⌜ Within source (now log) (now input) × Ready fit (length (now area)) × (shapeHeld (fit .shape) (length (now area)) ≡ true)
+        × (first .i < fit .shape .n) × (fit ≡ probing place first fit) ⌝ }
+    ensures { λ r. ⌜ Run (sourceWords source (now (log .entry)) (now (input .entry))) limit room fit (now (area .entry)) r (now (area .exit)) ⌝ }
 {
-    let mut q = first;
-    while q.extra.words < s.words {
-        let next = probe_entry(t, q, area, s, log, input, limit, room);
-        let Turned::On(p) = next else {
-            return differences::with_probe(t, w, q);
+    let mut probe = first;
+    while probe.extra.words < source.words {
+        let said = value_at(fit.shape.n, probe, source, log, input, limit, room);
+        let Said::Value(word, length) = said else {
+            return differences::with_probe(fit, place, probe);
         };
-        q = p;
+        let next = differences::next_probe(fit, probe, float::word_to_float(word), area);
+        let Next::Probe(following) = next else {
+            let here = differences::with_probe(fit, place, probe);
+            let last = differences::settle(here, place, next, area);
+            return fit::counted(last, length);
+        };
+        probe = logged(following, length);
     }
-    differences::with_probe(t, w, q)
+    differences::with_probe(fit, place, probe)
 }
 
-// The entries that lead from probe to probe, where a probe is asked.
+// The entries that are values at probes, where a probe is asked.
 fn after_probes(
-    t: Fit,
+    fit: Fit,
     area: &mut [f64],
-    s: Source,
+    source: Source,
     log: &[u64],
     input: &[u8],
     limit: usize,
     room: usize,
 ) -> Fit
-    requires { ⌜ Within s (now log) (now input) × (t .shape .n ≤ mostCoordinates) × Sound (t .shape) (length (now area)) × (shapeHeld (t .shape) (length (now area)) ≡ true) ⌝ }
-    ensures { λ r. ⌜ Run (sourceWords s (now (log .entry)) (now (input .entry))) limit room t (now (area .entry)) r (now (area .exit)) ⌝ }
+    requires { ⌜ Within source (now log) (now input) ⌝ }
+    ensures { λ r. ⌜ Run (sourceWords source (now (log .entry)) (now (input .entry))) limit room fit (now (area .entry)) r (now (area .exit)) ⌝ }
 {
-    let phase = t.phase;
-    let Phase::Probe(w, i, side) = phase else {
-        return t;
+    let phase = fit.phase;
+    let Phase::Probe(place, i, side) = phase else {
+        return fit;
     };
-    if t.shape.n <= i {
-        return t;
+    if !held::is_ready(fit, area.len()) {
+        return fit;
     }
-    let counters = t.counters;
-    let extra = t.extra;
-    let q = Probing {
-        i: i,
-        side: side,
-        right: t.right,
-        counters: counters,
-        extra: extra,
-    };
-    run_probes(t, w, q, area, s, log, input, limit, room)
+    let first = differences::numbers_of(fit, i, side);
+    run_probes(fit, place, first, area, source, log, input, limit, room)
 }
 
 // At most `limit` entries, from the first on.
 pub fn replay(
-    t: Fit,
+    fit: Fit,
     area: &mut [f64],
-    s: Source,
+    source: Source,
     log: &[u64],
     input: &[u8],
     limit: usize,
     room: usize,
 ) -> Replayed
-    requires { ⌜ Within s (now log) (now input) × (isReady t (length (now area)) ≡ true) × (t .extra .entries ≡ 0) × (t .extra .words ≡ 0) ⌝ }
-    ensures { λ r. ⌜ Replays t (now (area .entry)) (sourceWords s (now (log .entry)) (now (input .entry))) limit room r (now (area .exit)) ⌝ }
+    requires { ⌜ Within source (now log) (now input) × (isReady fit (length (now area)) ≡ true) × (fit .extra .entries ≡ 0) × (fit .extra .words ≡ 0) ⌝ }
+    ensures { λ r. ⌜ Replays fit (now (area .entry)) (sourceWords source (now (log .entry)) (now (input .entry))) limit room r (now (area .exit)) ⌝ }
 {
-    let mut f = t;
-    while f.extra.words < s.words {
-        if limit <= f.extra.entries {
-            return Replayed::Done(f);
+    let mut reached = fit;
+    while reached.extra.words < source.words {
+        if limit <= reached.extra.entries {
+            return Replayed::Done(reached);
         }
-        let next = replay_entry(f, area, s, log, input, room);
-        let Replayed::Done(g) = next else {
+        let next = replay_entry(reached, area, source, log, input, room);
+        let Replayed::Done(taken) = next else {
             return next;
         };
-        f = after_probes(g, area, s, log, input, limit, room);
+        reached = after_probes(taken, area, source, log, input, limit, room);
     }
-    Replayed::Done(f)
+    Replayed::Done(reached)
 }

@@ -12,17 +12,17 @@ use Rattle.replay.proofs.admitted.Tie as tie
 returns : tie.Need-returns
 returns c =
     let a = c .before .before .args in
-    let ready = isReady (a .t) (a .size) in
-    let due = isDue (a .t) (a .r) in
-    not-ready ready due (a .room) (a .t .extra .words) (a .length) (sym (c .before .is-ready .ensures) ∙ not-true _ (c .if1 .taken))
+    let ready = isReady (a .fit) (a .size) in
+    let due = isDue (a .fit) (a .reply) in
+    not-ready ready due (a .room) (a .fit .extra .words) (a .length) (sym (c .before .is-ready .ensures) ∙ not-true _ (c .if1 .taken))
 
 returns-2 : tie.Need-returns-2
 returns-2 c =
     let i = c .before .before .before in
     let a = i .before .before .args in
     let ready = sym (i .before .is-ready .ensures) ∙ not-false _ (i .if1 .left) in
-    let due = undue-is (a .t) (a .r) _ (c .before .before .check-due .ensures) (c .enum-told2 .given .1) in
-    not-due (isReady (a .t) (a .size)) (isDue (a .t) (a .r)) (a .room) (a .t .extra .words) (a .length) ready due
+    let due = undue-is (a .fit) (a .reply) _ (c .before .before .check-due .ensures) (c .enum-told2 .given .1) in
+    not-due (isReady (a .fit) (a .size)) (isDue (a .fit) (a .reply)) (a .room) (a .fit .extra .words) (a .length) ready due
 
 returns-3 : tie.Need-returns-3
 returns-3 c =
@@ -30,8 +30,8 @@ returns-3 c =
     let i = o .before .before .before in
     let a = i .before .before .args in
     let ready = sym (i .before .is-ready .ensures) ∙ not-false _ (i .if1 .left) in
-    let due = due-is (a .t) (a .r) _ (o .before .before .check-due .ensures) (o .enum-told .given .1) in
-    no-room (isReady (a .t) (a .size)) (isDue (a .t) (a .r)) (a .room) (a .t .extra .words) (a .length) ready due (omega (arith, c .if2 .taken))
+    let due = due-is (a .fit) (a .reply) _ (o .before .before .check-due .ensures) (o .enum-told .given .1) in
+    no-room (isReady (a .fit) (a .size)) (isDue (a .fit) (a .reply)) (a .room) (a .fit .extra .words) (a .length) ready due (omega (arith, c .if2 .taken))
 
 returns-4 : tie.Need-returns-4
 returns-4 c =
@@ -39,8 +39,8 @@ returns-4 c =
     let i = o .before .before .before in
     let a = i .before .before .args in
     let ready = sym (i .before .is-ready .ensures) ∙ not-false _ (i .if1 .left) in
-    let due = due-is (a .t) (a .r) _ (o .before .before .check-due .ensures) (o .enum-told .given .1) in
-    no-room (isReady (a .t) (a .size)) (isDue (a .t) (a .r)) (a .room) (a .t .extra .words) (a .length) ready due (omega (arith, c .if3 .taken))
+    let due = due-is (a .fit) (a .reply) _ (o .before .before .check-due .ensures) (o .enum-told .given .1) in
+    no-room (isReady (a .fit) (a .size)) (isDue (a .fit) (a .reply)) (a .room) (a .fit .extra .words) (a .length) ready due (omega (arith, c .if3 .taken))
 
 returns-5 : tie.Need-returns-5
 returns-5 c =
@@ -48,8 +48,8 @@ returns-5 c =
     let i = o .before .before .before in
     let a = i .before .before .args in
     let ready = sym (i .before .is-ready .ensures) ∙ not-false _ (i .if1 .left) in
-    let due = due-is (a .t) (a .r) _ (o .before .before .check-due .ensures) (o .enum-told .given .1) in
-    room-left (isReady (a .t) (a .size)) (isDue (a .t) (a .r)) (a .room) (a .t .extra .words) (a .length) ready due
+    let due = due-is (a .fit) (a .reply) _ (o .before .before .check-due .ensures) (o .enum-told .given .1) in
+    room-left (isReady (a .fit) (a .size)) (isDue (a .fit) (a .reply)) (a .room) (a .fit .extra .words) (a .length) ready due
     (omega (arith, c .before .before .if2 .left, c .if3 .left))
 
 pub admitted-spec : {M : Type 1} → statement M

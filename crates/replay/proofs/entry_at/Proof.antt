@@ -14,8 +14,8 @@ returns : tie.Need-returns
 returns c =
     let at = c .before .before .before .before .before in
     let a = at .args in
-    let all = source-count (a .s) (now (a .log)) (now (a .input)) (at .pre .0) in
-    let ws = sourceWords (a .s) (now (a .log)) (now (a .input)) in
+    let all = source-count (a .source) (now (a .log)) (now (a .input)) (at .pre .0) in
+    let ws = sourceWords (a .source) (now (a .log)) (now (a .input)) in
     let here : a .at < length ws = omega (arith, all, at .pre .1) in
     unknown-at (a .n) ws (a .at) _ _ here (c .before .before .source-word .ensures) (c .before .entry-length .ensures) (c .if1 .taken)
 
@@ -23,8 +23,8 @@ returns-2 : tie.Need-returns-2
 returns-2 c =
     let at = c .before .before .before .before .before .before .before in
     let a = at .args in
-    let all = source-count (a .s) (now (a .log)) (now (a .input)) (at .pre .0) in
-    let ws = sourceWords (a .s) (now (a .log)) (now (a .input)) in
+    let all = source-count (a .source) (now (a .log)) (now (a .input)) (at .pre .0) in
+    let ws = sourceWords (a .source) (now (a .log)) (now (a .input)) in
     let here : a .at < length ws = omega (arith, all, at .pre .1) in
     cut-at (a .n) ws (a .at) _ _ here (c .before .before .before .before .source-word .ensures) (c .before .before .before .entry-length .ensures) (omega (arith, all, c .if2 .taken))
 
@@ -32,8 +32,8 @@ source-word-requires-2 : tie.Need-source-word-requires-2
 source-word-requires-2 c κs =
     let at = c .before .before .before .before .before .before .before .before in
     let a = at .args in
-    let all = source-count (a .s) (now (a .log)) (now (a .input)) (at .pre .0) in
-    let ws = sourceWords (a .s) (now (a .log)) (now (a .input)) in
+    let all = source-count (a .source) (now (a .log)) (now (a .input)) (at .pre .0) in
+    let ws = sourceWords (a .source) (now (a .log)) (now (a .input)) in
     let here : a .at < length ws = omega (arith, all, at .pre .1) in
     let two = value-count (a .n) ws (a .at) _ _ here (c .before .before .before .before .before .source-word .ensures) (c .before .before .before .before .entry-length .ensures) (c .if3 .taken) in
     (at .pre .0, omega (arith, two, at .pre .1, c .before .if2 .left))
@@ -42,8 +42,8 @@ returns-3 : tie.Need-returns-3
 returns-3 c =
     let at = c .before .before .before .before .before .before .before .before .before in
     let a = at .args in
-    let all = source-count (a .s) (now (a .log)) (now (a .input)) (at .pre .0) in
-    let ws = sourceWords (a .s) (now (a .log)) (now (a .input)) in
+    let all = source-count (a .source) (now (a .log)) (now (a .input)) (at .pre .0) in
+    let ws = sourceWords (a .source) (now (a .log)) (now (a .input)) in
     let here : a .at < length ws = omega (arith, all, at .pre .1) in
     value-at (a .n) ws (a .at) _ _ here (c .before .before .before .before .before .before .source-word .ensures) (c .before .before .before .before .before .entry-length .ensures) _ (omega (arith, all, c .before .before .if2 .left)) (c .before .if3 .taken) (c .source-word2 .ensures)
 
@@ -51,8 +51,8 @@ returns-4 : tie.Need-returns-4
 returns-4 c =
     let at = c .before .before .before .before .before .before .before .before .before in
     let a = at .args in
-    let all = source-count (a .s) (now (a .log)) (now (a .input)) (at .pre .0) in
-    let ws = sourceWords (a .s) (now (a .log)) (now (a .input)) in
+    let all = source-count (a .source) (now (a .log)) (now (a .input)) (at .pre .0) in
+    let ws = sourceWords (a .source) (now (a .log)) (now (a .input)) in
     let here : a .at < length ws = omega (arith, all, at .pre .1) in
     reply-at (a .n) ws (a .at) _ _ here (c .before .before .before .before .before .before .source-word .ensures) (c .before .before .before .before .before .entry-length .ensures) _ (c .before .before .before .before .if1 .left) (omega (arith, all, c .before .before .if2 .left)) (c .before .if3 .left) (c .reply-of .ensures)
 

@@ -31,10 +31,7 @@ returns-2 : tie.Need-returns-2 Inv-loop μ-loop
 returns-2 c = reached-refused _ (c .enum-told .given .1) (c .before .before .before .before .before .before .before .before .before .before .before .loop .inv) (c .before .before .before .before .before .before .if2 .left) (c .before .before .before .area .given) (c .before .before .before .before .replay-entry .ensures)
 
 after-probes-requires : tie.Need-after-probes-requires Inv-loop μ-loop
-after-probes-requires c κs =
-    let h = c .before .before .before .before .before .before .before .before .before .before .before .before .before .loop .inv in
-    let k = next-took _ _ _ _ _ _ _ (c .before .before .next .given .1) (c .before .before .before .before .before .before .replay-entry .ensures) in
-    (c .before .before .before .before .before .before .before .before .before .before .before .before .before .before .before .before .before .pre .0, omega (arith, k .n, h .n, h .small), k .sound, k .shape)
+after-probes-requires c κs = c .before .before .before .before .before .before .before .before .before .before .before .before .before .before .before .before .before .pre .0
 
 loop-less : tie.Need-loop-less Inv-loop μ-loop
 loop-less c =
@@ -51,7 +48,7 @@ returns-3 c =
     let at = c .before .before .before .before .before .before .before in
     let a = at .args in
     let h = c .before .before .before .loop .inv in
-    reached-done h (inl (omega (arith, h .words, c .if1 .left, source-count (a .s) (now (a .log)) (now (a .input)) (at .pre .0))))
+    reached-done h (inl (omega (arith, h .words, c .if1 .left, source-count (a .source) (now (a .log)) (now (a .input)) (at .pre .0))))
 
 pub replay-spec : {M : Type 1} → statement M
 replay-spec =

@@ -18,57 +18,57 @@ returns : tie.Need-returns
 returns c =
     let at = c .before .before .before .before .before .before in
     let a = at .args in
-    let ws = sourceWords (a .s) (now (a .log)) (now (a .input)) in
-    let here : a .t .extra .words < length ws = omega (arith, source-count (a .s) (now (a .log)) (now (a .input)) (at .pre .0), at .pre .1) in
-    bad-refused (a .t) (now (a .area)) ws (a .room) here
-    (subst (EntryIs (a .t .shape .n) ws (a .t .extra .words)) (c .enum-told .given .1) (c .before .before .entry-at .ensures))
+    let ws = sourceWords (a .source) (now (a .log)) (now (a .input)) in
+    let here : a .fit .extra .words < length ws = omega (arith, source-count (a .source) (now (a .log)) (now (a .input)) (at .pre .0), at .pre .1) in
+    bad-refused (a .fit) (now (a .area)) ws (a .room) here
+    (subst (EntryIs (a .fit .shape .n) ws (a .fit .extra .words)) (c .enum-told .given .1) (c .before .before .entry-at .ensures))
 
 returns-2 : tie.Need-returns-2
 returns-2 c =
     let at = c .before .before .before .before .before .before .before .before .before in
     let a = at .args in
-    let ws = sourceWords (a .s) (now (a .log)) (now (a .input)) in
-    let here : a .t .extra .words < length ws = omega (arith, source-count (a .s) (now (a .log)) (now (a .input)) (at .pre .0), at .pre .1) in
-    let reads = subst (EntryIs (a .t .shape .n) ws (a .t .extra .words)) (c .before .before .before .entry .given .1)
+    let ws = sourceWords (a .source) (now (a .log)) (now (a .input)) in
+    let here : a .fit .extra .words < length ws = omega (arith, source-count (a .source) (now (a .log)) (now (a .input)) (at .pre .0), at .pre .1) in
+    let reads = subst (EntryIs (a .fit .shape .n) ws (a .fit .extra .words)) (c .before .before .before .entry .given .1)
     (c .before .before .before .before .before .entry-at .ensures) in
-    refused-is (a .t) (now (a .area)) ws (a .room) here _ _ reads _ (c .before .admitted .ensures) (c .if1 .taken)
+    refused-is (a .fit) (now (a .area)) ws (a .room) here _ _ reads _ (c .before .admitted .ensures) (c .if1 .taken)
 
 take-entry-requires : tie.Need-take-entry-requires
 take-entry-requires c κs =
     let at = c .before .before .before .before .before .before .before .before .before .before in
     let a = at .args in
-    let ws = sourceWords (a .s) (now (a .log)) (now (a .input)) in
-    let here : a .t .extra .words < length ws = omega (arith, source-count (a .s) (now (a .log)) (now (a .input)) (at .pre .0), at .pre .1) in
-    let reads = subst (EntryIs (a .t .shape .n) ws (a .t .extra .words)) (c .before .before .before .before .entry .given .1)
+    let ws = sourceWords (a .source) (now (a .log)) (now (a .input)) in
+    let here : a .fit .extra .words < length ws = omega (arith, source-count (a .source) (now (a .log)) (now (a .input)) (at .pre .0), at .pre .1) in
+    let reads = subst (EntryIs (a .fit .shape .n) ws (a .fit .extra .words)) (c .before .before .before .before .entry .given .1)
     (c .before .before .before .before .before .before .entry-at .ensures) in
-    let k = admitted-is (a .t) (now (a .area)) ws (a .room) here _ _ reads _ (c .before .before .admitted .ensures) (c .before .if1 .left) in
-    (at .pre .0, k .ready, k .due, omega (arith, reads .size, reads .within, source-count (a .s) (now (a .log)) (now (a .input)) (at .pre .0)))
+    let k = admitted-is (a .fit) (now (a .area)) ws (a .room) here _ _ reads _ (c .before .before .admitted .ensures) (c .before .if1 .left) in
+    (at .pre .0, k .ready, k .due, omega (arith, reads .size, reads .within, source-count (a .source) (now (a .log)) (now (a .input)) (at .pre .0)))
 
 counted-requires : tie.Need-counted-requires
 counted-requires c κs =
     let at = c .before .before .before .before .before .before .before .before .before .before .before .before .before in
     let a = at .args in
-    let ws = sourceWords (a .s) (now (a .log)) (now (a .input)) in
-    let here : a .t .extra .words < length ws = omega (arith, source-count (a .s) (now (a .log)) (now (a .input)) (at .pre .0), at .pre .1) in
-    let reads = subst (EntryIs (a .t .shape .n) ws (a .t .extra .words))
+    let ws = sourceWords (a .source) (now (a .log)) (now (a .input)) in
+    let here : a .fit .extra .words < length ws = omega (arith, source-count (a .source) (now (a .log)) (now (a .input)) (at .pre .0), at .pre .1) in
+    let reads = subst (EntryIs (a .fit .shape .n) ws (a .fit .extra .words))
     (c .before .before .before .before .before .before .before .entry .given .1)
     (c .before .before .before .before .before .before .before .before .before .entry-at .ensures) in
-    let k = admitted-is (a .t) (now (a .area)) ws (a .room) here _ _ reads _ (c .before .before .before .before .before .admitted .ensures) (c .before .before .before .before .if1 .left) in
-    let h = ready-facts (a .t) (length (now (a .area))) (k .ready) in
+    let k = admitted-is (a .fit) (now (a .area)) ws (a .room) here _ _ reads _ (c .before .before .before .before .before .admitted .ensures) (c .before .before .before .before .if1 .left) in
+    let h = ready-facts (a .fit) (length (now (a .area))) (k .ready) in
     let kept = c .before .before .take-entry .ensures .kept in
-    (rw (kept .extra) (h .entries), rw (kept .extra) (h .words), omega (arith, reads .size, reads-most reads, at .pre .2))
+    rw (kept .extra) (omega (arith, h .entries), omega (arith, h .words, reads .size, reads-most reads, at .pre .2))
 
 returns-3 : tie.Need-returns-3
 returns-3 c =
     let at = c .before .before .before .before .before .before .before .before .before .before .before .before .before .before in
     let a = at .args in
-    let ws = sourceWords (a .s) (now (a .log)) (now (a .input)) in
-    let here : a .t .extra .words < length ws = omega (arith, source-count (a .s) (now (a .log)) (now (a .input)) (at .pre .0), at .pre .1) in
-    let reads = subst (EntryIs (a .t .shape .n) ws (a .t .extra .words))
+    let ws = sourceWords (a .source) (now (a .log)) (now (a .input)) in
+    let here : a .fit .extra .words < length ws = omega (arith, source-count (a .source) (now (a .log)) (now (a .input)) (at .pre .0), at .pre .1) in
+    let reads = subst (EntryIs (a .fit .shape .n) ws (a .fit .extra .words))
     (c .before .before .before .before .before .before .before .before .entry .given .1)
     (c .before .before .before .before .before .before .before .before .before .before .entry-at .ensures) in
-    let k = admitted-is (a .t) (now (a .area)) ws (a .room) here _ _ reads _ (c .before .before .before .before .before .before .admitted .ensures) (c .before .before .before .before .before .if1 .left) in
-    took (a .t) (now (a .area)) ws (a .room) here _ _ reads k (c .before .before .area .given) (c .before .before .before .take-entry .ensures) (c .counted .ensures)
+    let k = admitted-is (a .fit) (now (a .area)) ws (a .room) here _ _ reads _ (c .before .before .before .before .before .before .admitted .ensures) (c .before .before .before .before .before .if1 .left) in
+    took (a .fit) (now (a .area)) ws (a .room) here _ _ reads k (c .before .before .area .given) (c .before .before .before .take-entry .ensures) (c .counted .ensures)
 
 pub replay-entry-spec : {M : Type 1} → statement M
 replay-entry-spec =

@@ -18,7 +18,7 @@ word-at-requires c κs = let p = c .before .before .before .before .pre in omega
 returns : tie.Need-returns
 returns c =
     let at = c .before .before .before .before .before in
-    c .word-at .ensures ∙ recorded-word (at .args .s) (now (at .args .log)) (now (at .args .input)) (at .pre .0) (at .args .i) (c .before .before .if1 .taken) (at .pre .1)
+    c .word-at .ensures ∙ recorded-word (at .args .source) (now (at .args .log)) (now (at .args .input)) (at .pre .0) (at .args .i) (c .before .before .if1 .taken) (at .pre .1)
 
 mul-result : tie.Need-mul-result
 mul-result c = let p = c .before .before .before .pre in omega (arith, p .1, p .0 .logged (c .if1 .left))
@@ -29,7 +29,7 @@ read c = let p = c .before .before .before .before .pre in omega (arith, p .1, p
 returns-2 : tie.Need-returns-2
 returns-2 c =
     let at = c .before .before .before .before in
-    logged-word (at .args .s) (now (at .args .log)) (now (at .args .input)) (at .pre .0) (at .args .i) (c .before .if1 .left) (at .pre .1)
+    logged-word (at .args .source) (now (at .args .log)) (now (at .args .input)) (at .pre .0) (at .args .i) (c .before .if1 .left) (at .pre .1)
 
 pub source-word-spec : {M : Type 1} → statement M
 source-word-spec = tie.close (tie.spec mul-word-at add-word-at word-at-requires returns mul-result read returns-2)

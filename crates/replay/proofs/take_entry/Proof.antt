@@ -17,7 +17,7 @@ advance-requires c κs = let h = ready-facts _ _ (c .before .before .before .bef
 returns : tie.Need-returns
 returns c =
     let a = c .before .before .before .before .before .before .before .before .args in
-    other-steps (a .r) (gradientAt (a .t .shape .n) (sourceWords (a .s) (now (a .log)) (now (a .input))) (a .t .extra .words))
+    other-steps (a .reply) (gradientAt (a .fit .shape .n) (sourceWords (a .source) (now (a .log)) (now (a .input))) (a .fit .extra .words))
     (c .before .before .before .before .match .keys2) (c .before .before .advance .ensures)
 
 add-store-gradient : tie.Need-add-store-gradient
@@ -27,7 +27,7 @@ store-gradient-requires : tie.Need-store-gradient-requires
 store-gradient-requires c κs =
     let at = c .before .before .before .before .before .before .before in
     let a = at .args in
-    let fits = gradient-fits (a .r) (a .t .shape .n) (a .t .extra .words) (a .s .words) (c .before .before .enum-told .given .1) (at .pre .3) in
+    let fits = gradient-fits (a .reply) (a .fit .shape .n) (a .fit .extra .words) (a .source .words) (c .before .before .enum-told .given .1) (at .pre .3) in
     (first-room (ready-facts _ _ (at .pre .1) .ready .sound), at .pre .0, fits)
 
 advance-requires-2 : tie.Need-advance-requires-2
@@ -37,7 +37,7 @@ returns-2 : tie.Need-returns-2
 returns-2 c =
     let at = c .before .before .before .before .before .before .before .before .before .before .before .before .before .before in
     let a = at .args in
-    gradient-steps (a .r) (gradientAt (a .t .shape .n) (sourceWords (a .s) (now (a .log)) (now (a .input))) (a .t .extra .words))
+    gradient-steps (a .reply) (gradientAt (a .fit .shape .n) (sourceWords (a .source) (now (a .log)) (now (a .input))) (a .fit .extra .words))
     (c .before .before .before .before .before .before .before .before .before .enum-told .given .1) (at .pre .2)
     (c .before .before .before .before .before .before .store-gradient .ensures) (c .before .before .advance2 .ensures)
 
