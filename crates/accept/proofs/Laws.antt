@@ -20,7 +20,7 @@ use Rattle.driver.specs.declared.Reply.{Reply}
 use Rattle.held.specs.Words.{words, Held}
 use Rattle.accept.specs.Moves.{written, Advances}
 use Rattle.held.proofs.Laws.{Reached, reached-held, held-reached}
-use Rattle.replay.specs.Taken.{replied}
+use Rattle.driver.specs.Replies.{replied}
 
 -- ---- the log
 

@@ -31,17 +31,15 @@ use Rattle.problem.specs.declared.Options.{Options}
 use Rattle.problem.specs.declared.Refusal.{Refusal}
 use Rattle.opening.specs.Opened.{setupAt}
 use Rattle.record.specs.Records.{entrySize}
-use Rattle.replay.specs.Replays.{withLog}
-use Rattle.fit.specs.State.{mostWords}
+use Rattle.fit.specs.State.{mostWords, moreKept, withExtra}
 use Rattle.held.specs.Test.{Marks}
 use Rattle.driver.specs.Replies.{suppliedIn, advanced}
 use Rattle.driver.specs.declared.Reply.{Reply}
 use Rattle.driver.specs.declared.Reply.the-variants as R
 use Rattle.held.proofs.Test.{marked-machine}
 use Rattle.driver.proofs.Steps.{DueSaid, due-then}
-use Rattle.replay.specs.Taken.{replied}
-use Rattle.replay.proofs.Answers.{terms-stay}
-use Rattle.question.specs.Reports.{Within}
+use Rattle.driver.specs.Replies.{replied}
+use Rattle.driver.proofs.Answers.{terms-stay}
 use Rattle.accept.specs.Moves.{entryKind, stored, checkSaid, Advances}
 use Rattle.accept.proofs.Checks.{passed, first-refuses, rest-decides}
 use Rattle.held.proofs.Laws.{setup-same, marked-setup, marks-saved}
@@ -184,10 +182,10 @@ said-answer t v R.Failure ws h = refl
 
 -- t with the area a, the reply's words stored (b), advanced (f with d), marked (e) and counted
 pub advances : (t : Fit) (a b : List Float) (r : Reply) (ws : List ℕ) (f : Fit) (d e : List Float) (k : ℕ)
-    → Sound (t .shape) (length a) → Within (t .phase) (t .shape .n) → checkDue (machineOf t a) (replied r ws) ≡ none
+    → Sound (t .shape) (length a) → M.InRange (phaseOf (t .phase)) (t .shape .n) → checkDue (machineOf t a) (replied r ws) ≡ none
     → view b (t .shape .n) ≡ stored r ws (view a (t .shape .n))
     → Steps (advanced r) t b f d → length d ≡ length a → Marks (f .shape) d e → k ≡ length (entryWords (replied r ws))
-    → Advances (replied r ws) t a (withLog (f .extra .entries + 1) (f .extra .words + k) f) e
+    → Advances (replied r ws) t a (withExtra (moreKept (f .extra) k) f) e
 advances t a b r ws f d e k s i c g h z m l =
     let q = replied r ws in
     let takes-it = due-taken (machineOf t a) q c in

@@ -21,7 +21,7 @@ use Rattle.opening.specs.Opened.{setupAt}
 use Rattle.held.specs.Test.{marked}
 use Rattle.driver.specs.declared.Reply.{Reply}
 use Rattle.driver.specs.declared.Reply.the-variants as R
-use Rattle.replay.specs.Taken.{replied}
+use Rattle.driver.specs.Replies.{replied}
 
 -- the kind of a reply, whatever words it brings
 abbrev pub entryKind : Reply → ℕ

@@ -17,7 +17,7 @@ ghost use Rattle.problem.specs.Setups.{setupIn, placesIn, checkOf};
 ghost use Rattle.fit.specs.State.{machineOf};
 ghost use Rattle.held.specs.Test.{isReady};
 ghost use Rattle.accept.specs.Moves.{entryKind, written, stored, checkSaid, Advances};
-ghost use Rattle.replay.specs.Taken.{replied};
+ghost use Rattle.driver.specs.Replies.{replied};
 ghost use Rattle.held.specs.Words.{words, Held};
 use driver::Reply;
 use fit::Fit;
@@ -27,11 +27,11 @@ use problem::Options;
 // ---- start
 
 // The area is too short for the setup.
-fn check_area(o: Options, n: usize, size: usize) -> Checked
-    requires { ⌜ (n ≤ mostCoordinates) × (placesIn o ≤ mostPairs) ⌝ }
-    ensures { λ r. ⌜ (let k = areaWords n (placesIn o) in checkOf r ≡ when (ltb size k) (refuse 11 k 0)) ⌝ }
+fn check_area(options: Options, n: usize, size: usize) -> Checked
+    requires { ⌜ (n ≤ mostCoordinates) × (placesIn options ≤ mostPairs) ⌝ }
+    ensures { λ r. ⌜ (let k = areaWords n (placesIn options) in checkOf r ≡ when (ltb size k) (refuse 11 k 0)) ⌝ }
 {
-    let needed = area::words(n, problem::places(o));
+    let needed = area::words(n, problem::places(options));
     if size < needed {
         return problem::refused(11, needed, 0);
     }
@@ -39,36 +39,42 @@ fn check_area(o: Options, n: usize, size: usize) -> Checked
 }
 
 // What is wrong with a setup, and then with the area.
-pub fn check_start(o: Options, x0: &[f64], lower: &[f64], upper: &[f64], size: usize) -> Checked
-    ensures { λ r. ⌜ (let s = setupIn o (now (x0 .entry)) (now (lower .entry)) (now (upper .entry)) in
+pub fn check_start(
+    options: Options,
+    x0: &[f64],
+    lower: &[f64],
+    upper: &[f64],
+    size: usize,
+) -> Checked
+    ensures { λ r. ⌜ (let s = setupIn options (now (x0 .entry)) (now (lower .entry)) (now (upper .entry)) in
         (l : ℕ) → checkOf r ≡ (validate s then checkArea (record { area = size; log = l }) s)) ⌝ }
 {
-    let rows = problem::validate(o, x0, lower, upper);
+    let rows = problem::validate(options, x0, lower, upper);
     let Checked::Passed = rows else {
         return rows;
     };
-    check_area(o, x0.len(), size)
+    check_area(options, x0.len(), size)
 }
 
 // The fit of a setup that passed, at its first question: no entry is in the log.
-pub fn opened(o: Options, area: &mut [f64], x0: &[f64], lower: &[f64], upper: &[f64]) -> Fit
-    requires { ⌜ (let s = setupIn o (now x0) (now lower) (now upper) in (validate s then checkArea (record { area = length (now area); log = 0 }) s) ≡ none) ⌝ }
+pub fn opened(options: Options, area: &mut [f64], x0: &[f64], lower: &[f64], upper: &[f64]) -> Fit
+    requires { ⌜ (let s = setupIn options (now x0) (now lower) (now upper) in (validate s then checkArea (record { area = length (now area); log = 0 }) s) ≡ none) ⌝ }
     ensures { λ f. ⌜ ((l : List ℕ)
-        → Held (words f (now (area .exit)) l) (openedBook (setupIn o (now (x0 .entry)) (now (lower .entry)) (now (upper .entry))))) ⌝ }
+        → Held (words f (now (area .exit)) l) (openedBook (setupIn options (now (x0 .entry)) (now (lower .entry)) (now (upper .entry))))) ⌝ }
 {
-    let f = opening::begin(o, area, x0, lower, upper);
-    let h = f.shape;
-    held::mark(area, h);
-    f
+    let fit = opening::begin(options, area, x0, lower, upper);
+    let shape = fit.shape;
+    held::mark(area, shape);
+    fit
 }
 
 // ---- reply
 
 // The kind of a reply: the first word of its entry in the log.
-fn kind_of(r: Reply) -> u64
-    ensures { λ k. ⌜ k ≡ entryKind r ⌝ }
+fn kind_of(reply: Reply) -> u64
+    ensures { λ k. ⌜ k ≡ entryKind reply ⌝ }
 {
-    match r {
+    match reply {
         Reply::Value(_) => 1,
         Reply::Gradient => 2,
         Reply::NotSupplied => 3,
@@ -79,10 +85,10 @@ fn kind_of(r: Reply) -> u64
 }
 
 // 14 for a gradient that is not of n words.
-fn check_length(r: Reply, gradient: usize, n: usize) -> Checked
-    ensures { λ c. ⌜ ((ws : List ℕ) → length ws ≡ gradient → checkOf c ≡ checkLength n (replied r ws)) ⌝ }
+fn check_length(reply: Reply, gradient: usize, n: usize) -> Checked
+    ensures { λ c. ⌜ ((ws : List ℕ) → length ws ≡ gradient → checkOf c ≡ checkLength n (replied reply ws)) ⌝ }
 {
-    if kind_of(r) != 2 {
+    if kind_of(reply) != 2 {
         return Checked::Passed;
     }
     if gradient != n {
@@ -105,20 +111,24 @@ fn check_room(words: usize, length: usize, room: usize) -> Checked
 }
 
 // 13, 14 and 12 for a reply with the gradient's words beside it.
-pub fn check_reply(t: Fit, r: Reply, gradient: usize, room: usize) -> Checked
-    requires { ⌜ t .shape .n ≤ mostCoordinates ⌝ }
-    ensures { λ c. ⌜ ((a : List Float) (ws : List ℕ) → length ws ≡ gradient → checkOf c ≡ checkSaid t a room (replied r ws)) ⌝ }
+pub fn check_reply(fit: Fit, reply: Reply, gradient: usize, room: usize) -> Checked
+    requires { ⌜ fit .shape .n ≤ mostCoordinates ⌝ }
+    ensures { λ c. ⌜ ((a : List Float) (ws : List ℕ) → length ws ≡ gradient → checkOf c ≡ checkSaid fit a room (replied reply ws)) ⌝ }
 {
-    let due = driver::check_due(t, r);
+    let due = driver::check_due(fit, reply);
     let Checked::Passed = due else {
         return due;
     };
-    let n = t.shape.n;
-    let sized = check_length(r, gradient, n);
+    let n = fit.shape.n;
+    let sized = check_length(reply, gradient, n);
     let Checked::Passed = sized else {
         return sized;
     };
-    check_room(t.extra.words, record::entry_length(kind_of(r), n), room)
+    check_room(
+        fit.extra.words,
+        record::entry_length(kind_of(reply), n),
+        room,
+    )
 }
 
 // The words of a gradient into the log.
@@ -134,14 +144,14 @@ fn log_gradient(log: &mut [u64], at: usize, words: &[u64])
 }
 
 // The entry of a reply into the log.
-fn log_entry(log: &mut [u64], at: usize, r: Reply, gradient: &[u64])
-    requires { ⌜ at + length (entryWords (replied r (now gradient))) ≤ length (now log) ⌝ }
-    ensures { λ _. ⌜ now (log .exit) ≡ written at (entryWords (replied r (now (gradient .entry)))) (now (log .entry)) ⌝ }
+fn log_entry(log: &mut [u64], at: usize, reply: Reply, gradient: &[u64])
+    requires { ⌜ at + length (entryWords (replied reply (now gradient))) ≤ length (now log) ⌝ }
+    ensures { λ _. ⌜ now (log .exit) ≡ written at (entryWords (replied reply (now (gradient .entry)))) (now (log .entry)) ⌝ }
 {
-    log[at] = kind_of(r);
-    match r {
-        Reply::Value(v) => {
-            log[at + 1] = v;
+    log[at] = kind_of(reply);
+    match reply {
+        Reply::Value(word) => {
+            log[at + 1] = word;
         }
         Reply::Gradient => log_gradient(log, at + 1, gradient),
         Reply::NotSupplied => {}
@@ -152,35 +162,35 @@ fn log_entry(log: &mut [u64], at: usize, r: Reply, gradient: &[u64])
 }
 
 // The words of a gradient into the area, as the trial's gradient; no other reply brings any.
-fn put_gradient(area: &mut [f64], n: usize, r: Reply, gradient: &[u64])
-    requires { ⌜ (firstPair * n ≤ length (now area)) × (entryKind r ≡ 2 → length (now gradient) ≡ n) ⌝ }
-    ensures { λ _. ⌜ view (now (area .exit)) n ≡ stored r (now (gradient .entry)) (view (now (area .entry)) n) ⌝ }
+fn put_gradient(area: &mut [f64], n: usize, reply: Reply, gradient: &[u64])
+    requires { ⌜ (firstPair * n ≤ length (now area)) × (entryKind reply ≡ 2 → length (now gradient) ≡ n) ⌝ }
+    ensures { λ _. ⌜ view (now (area .exit)) n ≡ stored reply (now (gradient .entry)) (view (now (area .entry)) n) ⌝ }
 {
-    if kind_of(r) != 2 {
+    if kind_of(reply) != 2 {
         return;
     }
-    replay::store_words(area, n, gradient, 0);
+    area::store_gradient(area, n, gradient, 0);
 }
 
 // The fit advanced by a reply that is due.
-fn advanced(t: Fit, area: &mut [f64], r: Reply, gradient: &[u64]) -> Fit
-    requires { ⌜ (isReady t (length (now area)) ≡ true) × (checkDue (machineOf t (now area)) (replied r (now gradient)) ≡ none) ⌝ }
-    ensures { λ f. ⌜ Advances (replied r (now (gradient .entry))) t (now (area .entry)) f (now (area .exit)) ⌝ }
+fn advanced(fit: Fit, area: &mut [f64], reply: Reply, gradient: &[u64]) -> Fit
+    requires { ⌜ (isReady fit (length (now area)) ≡ true) × (checkDue (machineOf fit (now area)) (replied reply (now gradient)) ≡ none) ⌝ }
+    ensures { λ f. ⌜ Advances (replied reply (now (gradient .entry))) fit (now (area .entry)) f (now (area .exit)) ⌝ }
 {
-    let n = t.shape.n;
-    put_gradient(area, n, r, gradient);
-    let f = driver::advance(t, area, r);
-    let h = f.shape;
-    held::mark(area, h);
-    replay::counted(f, record::entry_length(kind_of(r), n))
+    let n = fit.shape.n;
+    put_gradient(area, n, reply, gradient);
+    let next = driver::advance(fit, area, reply);
+    let shape = next.shape;
+    held::mark(area, shape);
+    fit::counted(next, record::entry_length(kind_of(reply), n))
 }
 
 // A reply that passed, into the log and into the fit.
-pub fn keep(t: Fit, area: &mut [f64], log: &mut [u64], r: Reply, gradient: &[u64]) -> Fit
-    requires { ⌜ (isReady t (length (now area)) ≡ true) × (checkSaid t (now area) (length (now log)) (replied r (now gradient)) ≡ none) ⌝ }
-    ensures { λ f. ⌜ Advances (replied r (now (gradient .entry))) t (now (area .entry)) f (now (area .exit))
-        × (now (log .exit) ≡ written (t .extra .words) (entryWords (replied r (now (gradient .entry)))) (now (log .entry))) ⌝ }
+pub fn keep(fit: Fit, area: &mut [f64], log: &mut [u64], reply: Reply, gradient: &[u64]) -> Fit
+    requires { ⌜ (isReady fit (length (now area)) ≡ true) × (checkSaid fit (now area) (length (now log)) (replied reply (now gradient)) ≡ none) ⌝ }
+    ensures { λ f. ⌜ Advances (replied reply (now (gradient .entry))) fit (now (area .entry)) f (now (area .exit))
+        × (now (log .exit) ≡ written (fit .extra .words) (entryWords (replied reply (now (gradient .entry)))) (now (log .entry))) ⌝ }
 {
-    log_entry(log, t.extra.words, r, gradient);
-    advanced(t, area, r, gradient)
+    log_entry(log, fit.extra.words, reply, gradient);
+    advanced(fit, area, reply, gradient)
 }

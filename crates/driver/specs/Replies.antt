@@ -1,8 +1,11 @@
 -- The reply that a fit is advanced by, and the definition's step for it.
 use Prim.Native.Nat.{ℕ}
-use mathlib.Core.List.{List}
+use mathlib.Core.Bool.{Bool}
+use mathlib.Core.List.{List, []}
 use Rattle.definition.specs.Machine as M
 use Rattle.definition.specs.Driver as D
+use Rattle.fit.specs.State.{phaseOf}
+use Rattle.fit.specs.declared.Fit.{Fit}
 use Rattle.driver.specs.declared.Reply.{Reply}
 use Rattle.driver.specs.declared.Reply.the-variants as R
 
@@ -14,6 +17,10 @@ replied R.NotSupplied ws = M.Reply.notSupplied
 replied R.GoOn ws = M.Reply.goOn
 replied R.Stop ws = M.Reply.stop
 replied R.Failure ws = M.Reply.failure
+
+-- the kind of the reply is that of the open question
+abbrev pub isDue : Fit → Reply → Bool
+isDue t r = M.suits (M.kindOf (phaseOf (t .phase))) (replied r [])
 
 -- a supplied gradient is complete, where it is due
 abbrev pub suppliedIn : M.Phase → M.Machine → M.Machine

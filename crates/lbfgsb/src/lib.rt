@@ -163,7 +163,7 @@ pub fn question(fit: Fit, area: &[f64], out: &mut [f64]) -> Asked
         return Asked::Nothing;
     }
     let p = fit.phase;
-    let kind = question::kind_of(p);
+    let kind = fit::question_kind(p);
     if kind == 0 {
         return Asked::Nothing;
     }

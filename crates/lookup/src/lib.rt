@@ -62,19 +62,19 @@ pub fn copy_words(log: &[u64], from: usize, count: usize, out: &mut [u64])
 }
 
 // The record of what state, area and log hold, into the front of an output slice.
-pub fn put_record(t: Fit, area: &[f64], log: &[u64], out: &mut [u8])
-    requires { ⌜ Placed t (now area) × (t .extra .words ≤ length (now log))
-        × (8 * (setupSize (t .options .bounded) (t .shape .n) + t .extra .words + 4) ≤ length (now out)) ⌝ }
-    ensures { λ _. ⌜ now (out .exit) ≡ writtenFirst (recordIn (words t (now (area .entry)) (now (log .entry)))) (now (out .entry)) ⌝ }
+pub fn put_record(fit: Fit, area: &[f64], log: &[u64], out: &mut [u8])
+    requires { ⌜ Placed fit (now area) × (fit .extra .words ≤ length (now log))
+        × (8 * (setupSize (fit .options .bounded) (fit .shape .n) + fit .extra .words + 4) ≤ length (now out)) ⌝ }
+    ensures { λ _. ⌜ now (out .exit) ≡ writtenFirst (recordIn (words fit (now (area .entry)) (now (log .entry)))) (now (out .entry)) ⌝ }
 {
-    let n = t.shape.n;
-    let words = t.extra.words;
-    let o = t.options;
+    let n = fit.shape.n;
+    let words = fit.extra.words;
+    let options = fit.options;
     let x0 = area::X0 * n;
     let lower = area::LOWER * n;
     let upper = area::UPPER * n;
     record::write(
-        o,
+        options,
         &area[x0..x0 + n],
         &area[lower..lower + n],
         &area[upper..upper + n],

@@ -26,7 +26,6 @@ use Rattle.fit.specs.State.{phaseOf}
 use Rattle.fit.specs.declared.Fit.{Fit}
 use Rattle.fit.specs.declared.Phase.{Phase}
 use Rattle.fit.specs.declared.Phase.the-variants.{Value, Gradient, Probe, Notice, Ended}
-use Rattle.question.specs.Reports.{Within}
 use Rattle.opening.specs.Opened.{setupAt, Room, Fits, Opened}
 use Rattle.fit.specs.State.{mostWords}
 use Rattle.held.specs.Test.{isReady, Marks}
@@ -48,7 +47,7 @@ ready-room t size h =
     let all = subst (λ (m : ℕ). vectors m * t .shape .n ≤ size) (sym (f .places)) (f .ready .sound .all) in
     record { all = all; few = omega (arith, f .places, f .ready .sound .few); some = omega (arith, f .places, f .some) }
 
-opened-within : (p : Phase) (n : ℕ) → phaseOf p ≡ M.Phase.value M.Place.start → Within p n
+opened-within : (p : Phase) (n : ℕ) → phaseOf p ≡ M.Phase.value M.Place.start → M.InRange (phaseOf p) n
 opened-within (Value w) n e = tt
 opened-within (Gradient w) n e = tt
 opened-within (Probe w i s) n e = let z : _≡_ {A = ℕ} 0 1 = cc in absurd (omega arith)

@@ -38,40 +38,46 @@ fn zero_log(log: &mut [u64], from: usize, to: usize)
 }
 
 // The replay of a log's first `count` entries: where the words end before the last of them, one is cut.
-fn all_of(r: Replayed, count: usize) -> Replayed
-    ensures { λ o. ⌜ o ≡ allOf r count ⌝ }
+fn all_of(replayed: Replayed, count: usize) -> Replayed
+    ensures { λ o. ⌜ o ≡ allOf replayed count ⌝ }
 {
-    match r {
-        Replayed::Refused(_) => r,
-        Replayed::Done(t) => {
-            if t.extra.entries < count {
+    match replayed {
+        Replayed::Refused(_) => replayed,
+        Replayed::Done(fit) => {
+            if fit.extra.entries < count {
                 return Replayed::Refused(17);
             }
-            r
+            replayed
         }
     }
 }
 
 // What a replay leaves: an entry that is refused leaves the area zero.
-fn settle(area: &mut [f64], r: Replayed)
-    requires { ⌜ Markable r (length (now area)) ⌝ }
-    ensures { λ _. ⌜ Settles r (now (area .entry)) (now (area .exit)) ⌝ }
+fn settle(area: &mut [f64], replayed: Replayed)
+    requires { ⌜ Markable replayed (length (now area)) ⌝ }
+    ensures { λ _. ⌜ Settles replayed (now (area .entry)) (now (area .exit)) ⌝ }
 {
-    match r {
+    match replayed {
         Replayed::Refused(_) => zero_area(area),
-        Replayed::Done(t) => {
-            let h = t.shape;
-            held::mark(area, h);
+        Replayed::Done(fit) => {
+            let shape = fit.shape;
+            held::mark(area, shape);
         }
     }
 }
 
 // The first fit of options and three vectors of n words one behind the other.
-fn begin_from(o: Options, area: &mut [f64], v: &[f64], n: usize) -> Fit
-    requires { ⌜ Room o n (length (now area)) × (3 * n ≤ length (now v)) ⌝ }
-    ensures { λ r. ⌜ Opened o n (setupFrom o (now (v .entry)) n) (now (area .entry)) r (now (area .exit)) ⌝ }
+fn begin_from(options: Options, area: &mut [f64], vectors: &[f64], n: usize) -> Fit
+    requires { ⌜ Room options n (length (now area)) × (3 * n ≤ length (now vectors)) ⌝ }
+    ensures { λ r. ⌜ Opened options n (setupFrom options (now (vectors .entry)) n) (now (area .entry)) r (now (area .exit)) ⌝ }
 {
-    opening::begin(o, area, &v[0..n], &v[n..2 * n], &v[2 * n..3 * n])
+    opening::begin(
+        options,
+        area,
+        &vectors[0..n],
+        &vectors[n..2 * n],
+        &vectors[2 * n..3 * n],
+    )
 }
 
 // The fit of the log's first `count` entries, no fewer, from the setup that state and area hold.
@@ -80,16 +86,16 @@ fn replay_log(fit: Fit, area: &mut [f64], log: &[u64], count: usize) -> Replayed
     ensures { λ o. ⌜ Stays (setupAt (fit .options) (view (now (area .entry)) (fit .shape .n))) (take (fit .extra .words) (now (log .entry))) count
         (length (now (log .entry))) (now (area .entry)) o (now (area .exit)) ⌝ }
 {
-    let o = fit.options;
-    let t = opening::reset(o, area, fit.shape.n);
+    let options = fit.options;
+    let first = opening::reset(options, area, fit.shape.n);
     let none = [0u8; 1];
     let source = Source {
         recorded: false,
         at: 0,
         words: fit.extra.words,
     };
-    let r = replay::replay(t, area, source, log, &none[..], count, log.len());
-    let all = all_of(r, count);
+    let replayed = replay::replay(first, area, source, log, &none[..], count, log.len());
+    let all = all_of(replayed, count);
     settle(area, all);
     all
 }
@@ -99,24 +105,24 @@ fn replay_record(
     area: &mut [f64],
     log: &[u64],
     input: &[u8],
-    o: Options,
-    f: record::Frame,
+    options: Options,
+    frame: record::Frame,
 ) -> Replayed
-    requires { ⌜ Opens (now input) (length (now area)) o f ⌝ }
-    ensures { λ r. ⌜ Builds (setupRead (wordsIn (now (input .entry)) f)) (entriesIn (now (input .entry)) f) (f .words - f .setup) (length (now (log .entry)))
+    requires { ⌜ Opens (now input) (length (now area)) options frame ⌝ }
+    ensures { λ r. ⌜ Builds (setupRead (wordsIn (now (input .entry)) frame)) (entriesIn (now (input .entry)) frame) (frame .words - frame .setup) (length (now (log .entry)))
         (now (area .entry)) r (now (area .exit)) ⌝ }
 {
-    let v = record::vectors(input, f);
-    let t = begin_from(o, area, &v, f.n);
-    let words = f.words - f.setup;
+    let vectors = record::vectors(input, frame);
+    let first = begin_from(options, area, &vectors, frame.n);
+    let words = frame.words - frame.setup;
     let source = Source {
         recorded: true,
-        at: f.at + 8 * f.setup,
+        at: frame.at + 8 * frame.setup,
         words: words,
     };
-    let r = replay::replay(t, area, source, log, input, words, log.len());
-    settle(area, r);
-    r
+    let replayed = replay::replay(first, area, source, log, input, words, log.len());
+    settle(area, replayed);
+    replayed
 }
 
 // The words of a record's entries into the log.
@@ -151,18 +157,18 @@ pub fn reload(
     area: &mut [f64],
     log: &mut [u64],
     input: &[u8],
-    o: Options,
-    f: record::Frame,
+    options: Options,
+    frame: record::Frame,
 ) -> Replayed
-    requires { ⌜ Opens (now input) (length (now area)) o f ⌝ }
-    ensures { λ r. ⌜ Builds (setupRead (wordsIn (now (input .entry)) f)) (entriesIn (now (input .entry)) f) (f .words - f .setup) (length (now (log .entry)))
+    requires { ⌜ Opens (now input) (length (now area)) options frame ⌝ }
+    ensures { λ r. ⌜ Builds (setupRead (wordsIn (now (input .entry)) frame)) (entriesIn (now (input .entry)) frame) (frame .words - frame .setup) (length (now (log .entry)))
         (now (area .entry)) r (now (area .exit))
-        × Reloads r (now (input .entry)) f (now (log .entry)) (now (log .exit)) ⌝ }
+        × Reloads r (now (input .entry)) frame (now (log .entry)) (now (log .exit)) ⌝ }
 {
-    let built = replay_record(area, log, input, o, f);
+    let built = replay_record(area, log, input, options, frame);
     let Replayed::Done(read) = built else {
         return built;
     };
-    copy_entries(log, input, f.at + 8 * f.setup, read.extra.words);
+    copy_entries(log, input, frame.at + 8 * frame.setup, read.extra.words);
     built
 }

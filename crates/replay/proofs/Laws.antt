@@ -38,7 +38,7 @@ use Rattle.replay.specs.declared.Replayed.the-variants.{Done, Refused}
 use Rattle.replay.specs.Replays.{oneMore, afterEntries, firstEntries, Replayable, ReplayedTo, Replays}
 use Rattle.replay.specs.Taken.{replied, gradientAt, Reads, isDue, admission, Took, RefusedBy, NextIs, Run}
 use Rattle.replay.proofs.Entries.{reads-count, due-checked, next-bad, next-undue, next-short, next-going}
-use Rattle.replay.proofs.Answers.{terms-stay}
+use Rattle.driver.proofs.Answers.{terms-stay}
 
 -- ---- admission
 

@@ -1,5 +1,4 @@
 pub mod Words
 pub mod Entries
-pub mod Answers
 pub mod Laws
 pub mod Runs

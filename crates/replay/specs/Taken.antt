@@ -9,17 +9,17 @@ use lib.Dec.{eqb}
 use lib.ListN.{length, getD, take, drop}
 use lib.Ieee.{Float}
 use Rattle.definition.specs.Machine as M
-use Rattle.definition.specs.Machine.{suits, kindOf, checkDue}
+use Rattle.definition.specs.Machine.{checkDue}
 use Rattle.definition.specs.Driver as D
 use Rattle.definition.specs.Log.{Entries, entryOf, entryWords, logWords, nextEntry}
 use Rattle.area.specs.Area.{view, Saved}
 use Rattle.compact.specs.State.{Sound}
 use Rattle.search.specs.State.{Settled}
-use Rattle.fit.specs.State.{machineOf, phaseOf, moreKept}
+use Rattle.fit.specs.State.{machineOf, moreKept}
 use Rattle.fit.specs.declared.Fit.{Fit}
 use Rattle.differences.specs.declared.Probing.{Probing}
 use Rattle.held.specs.Test.{shapeHeld, isReady}
-pub use Rattle.driver.specs.Replies.{replied}
+pub use Rattle.driver.specs.Replies.{replied, isDue}
 use Rattle.driver.specs.declared.Reply.{Reply}
 use Rattle.driver.specs.declared.Reply.the-variants as R
 use Rattle.replay.specs.declared.Entry.{Entry}
@@ -64,10 +64,6 @@ EntryIs n ws at Bad = entryOf n (getD ws at 0) (drop (at + 1) ws) ≡ none
 EntryIs n ws at (Is r l) = Reads n ws at r l
 
 -- ---- admitting it
-
--- the kind of the reply is that of the open question
-abbrev pub isDue : Fit → Reply → Bool
-isDue t r = suits (kindOf (phaseOf (t .phase))) (replied r [])
 
 -- 0, or the refusal: not due, then no room
 abbrev pub admission : Bool → Bool → ℕ

@@ -9,7 +9,7 @@ use Rattle.fit.proofs.Laws.{first-room}
 use Rattle.record.specs.Records.{entrySize}
 use Rattle.held.specs.Test.{shapeHeld}
 use Rattle.held.proofs.Test.{ready-facts, shape-again}
-use Rattle.replay.specs.Taken.{replied}
+use Rattle.driver.specs.Replies.{replied}
 use Rattle.accept.proofs.Replying.{due-long, entry-size, entry-few, advances}
 use Rattle.accept.proofs.advanced.Statement.{statement}
 use Rattle.accept.proofs.advanced.Tie as tie
@@ -22,8 +22,8 @@ advance-length c = search needs
 put-gradient-requires : tie.Need-put-gradient-requires
 put-gradient-requires c κs =
     let s = c .before .before .before in (
-      first-room (ready-facts (s .args .t) (length (s .args .area .now)) (s .pre .0) .ready .sound),
-      due-long (s .args .t) (s .args .area .now) (s .args .r) (s .args .gradient .now) (s .pre .1),
+      first-room (ready-facts (s .args .fit) (length (s .args .area .now)) (s .pre .0) .ready .sound),
+      due-long (s .args .fit) (s .args .area .now) (s .args .reply) (s .args .gradient .now) (s .pre .1),
     )
 
 advance-requires : tie.Need-advance-requires
@@ -31,7 +31,7 @@ advance-requires c κs =
     let p = c .before .before .before in
     let s = p .before .before .before .before in
     let z : length (p .put-gradient .last .0) ≡ length (s .args .area .now) = search needs in
-    let f = ready-facts (s .args .t) (length (s .args .area .now)) (s .pre .0) in
+    let f = ready-facts (s .args .fit) (length (s .args .area .now)) (s .pre .0) in
     (rw z (f .ready), f .within)
 
 mark-requires : tie.Need-mark-requires
@@ -39,25 +39,25 @@ mark-requires c κs =
     let a = c .before .before .before .before in
     let s = a .before .before .before .before .before .before .before .before in
     let z = advance-length a in
-    let f = ready-facts (s .args .t) (length (s .args .area .now)) (s .pre .0) in
+    let f = ready-facts (s .args .fit) (length (s .args .area .now)) (s .pre .0) in
     let k = a .advance .ensures in
     ap (shapeHeld (a .advance .result .shape)) z
-    ∙ shape-again (s .args .t .shape) (a .advance .result .shape) (length (s .args .area .now)) (f .shape) (k .n) (k .m) (k .sound _ (f .ready .sound))
+    ∙ shape-again (s .args .fit .shape) (a .advance .result .shape) (length (s .args .area .now)) (f .shape) (k .n) (k .m) (k .sound _ (f .ready .sound))
 
 entry-length-requires : tie.Need-entry-length-requires
 entry-length-requires c κs =
     let s = c .before .before .before .before .before .before .before .before .before .before .before .before .before .before .before .before in
-    let n = ready-facts (s .args .t) (length (s .args .area .now)) (s .pre .0) .ready .n in
+    let n = ready-facts (s .args .fit) (length (s .args .area .now)) (s .pre .0) .ready .n in
     omega arith
 
 counted-requires : tie.Need-counted-requires
 counted-requires c κs =
     let a = c .before .before .before .before .before .before .before .before .before in
     let s = a .before .before .before .before .before .before .before .before in
-    let f = ready-facts (s .args .t) (length (s .args .area .now)) (s .pre .0) in
+    let f = ready-facts (s .args .fit) (length (s .args .area .now)) (s .pre .0) in
     let k = a .advance .ensures .kept in
-    let few = entry-few (s .args .t .shape .n) (s .args .r) (f .ready .n) in
-    (rw (k .extra) (f .entries), rw (k .extra) (f .words), rw (c .entry-length .ensures, c .before .kind-of .ensures) few)
+    let few = entry-few (s .args .fit .shape .n) (s .args .reply) (f .ready .n) in
+    rw (k .extra, c .entry-length .ensures, c .before .kind-of .ensures) (omega (arith, f .entries), omega (arith, f .words, few))
 
 same-length : tie.Need-same-length
 same-length c =
@@ -72,14 +72,14 @@ returns c =
     let p = a .before .before .before .before in
     let s = p .before .before .before .before in
     let z = advance-length a in
-    let e : c .before .entry-length .result ≡ length (entryWords (replied (s .args .r) (s .args .gradient .now))) =
+    let e : c .before .entry-length .result ≡ length (entryWords (replied (s .args .reply) (s .args .gradient .now))) =
     c .before .entry-length .ensures
-    ∙ ap (λ (k : ℕ). entrySize k (s .args .t .shape .n)) (c .before .before .kind-of .ensures)
-    ∙ entry-size (s .args .t .shape .n) (s .args .r) (s .args .gradient .now)
-    (due-long (s .args .t) (s .args .area .now) (s .args .r) (s .args .gradient .now) (s .pre .1)) in
-    let f = ready-facts (s .args .t) (length (s .args .area .now)) (s .pre .0) in
+    ∙ ap (λ (k : ℕ). entrySize k (s .args .fit .shape .n)) (c .before .before .kind-of .ensures)
+    ∙ entry-size (s .args .fit .shape .n) (s .args .reply) (s .args .gradient .now)
+    (due-long (s .args .fit) (s .args .area .now) (s .args .reply) (s .args .gradient .now) (s .pre .1)) in
+    let f = ready-facts (s .args .fit) (length (s .args .area .now)) (s .pre .0) in
     rw (c .counted .ensures)
-    (advances (s .args .t) (s .args .area .now) _ (s .args .r) (s .args .gradient .now) (a .advance .result) _ _ _ (f .ready .sound) (f .within) (s .pre .1)
+    (advances (s .args .fit) (s .args .area .now) _ (s .args .reply) (s .args .gradient .now) (a .advance .result) _ _ _ (f .ready .sound) (f .within) (s .pre .1)
     (p .put-gradient .ensures) (a .advance .ensures) z (m .mark .ensures) e)
 
 pub advanced-spec : {M : Type 1} → statement M

@@ -7,7 +7,7 @@ use Rattle.accept.proofs.check_length.Statement.{statement}
 use Rattle.accept.proofs.check_length.Tie as tie
 
 returns : tie.Need-returns
-returns c = λ ws e. no-length (c .before .before .args .n) (c .before .before .args .r) ws (λ k. c .if1 .taken (c .before .kind-of .ensures ∙ k))
+returns c = λ ws e. no-length (c .before .before .args .n) (c .before .before .args .reply) ws (λ k. c .if1 .taken (c .before .kind-of .ensures ∙ k))
 
 returns-2 : tie.Need-returns-2
 returns-2 c =
@@ -15,13 +15,13 @@ returns-2 c =
     let s = h .before .before in
     λ ws e.
     c .refused .ensures
-    ∙ rw (← e) (wrong-length (s .args .n) (s .args .r) ws (sym (h .before .kind-of .ensures) ∙ h .if1 .left) (λ k. c .before .if2 .taken (sym e ∙ k)))
+    ∙ rw (← e) (wrong-length (s .args .n) (s .args .reply) ws (sym (h .before .kind-of .ensures) ∙ h .if1 .left) (λ k. c .before .if2 .taken (sym e ∙ k)))
 
 returns-3 : tie.Need-returns-3
 returns-3 c =
     λ ws e.
     let s = c .before .before .before in
-    sym (right-length (s .args .n) (s .args .r) ws (e ∙ c .if2 .left))
+    sym (right-length (s .args .n) (s .args .reply) ws (e ∙ c .if2 .left))
 
 pub check-length-spec : {M : Type 1} → statement M
 check-length-spec =

@@ -16,14 +16,14 @@ returns c =
     λ a ws e.
     let s = c .before .before .before in
     let refused = c .enum-told2 .given .1 in
-    first-refuses _ refused (said-undue (s .args .t) a (s .args .r) ws _ (c .before .before .check-due .ensures) refused)
+    first-refuses _ refused (said-undue (s .args .fit) a (s .args .reply) ws _ (c .before .before .check-due .ensures) refused)
 
 returns-2 : tie.Need-returns-2
 returns-2 c =
     λ a ws e.
     let o = c .before .before .before in
     let s = o .before .before .before in
-    let due = said-due (s .args .t) a (s .args .r) ws _ (o .before .before .check-due .ensures) (o .enum-told .given .1) in
+    let due = said-due (s .args .fit) a (s .args .reply) ws _ (o .before .before .check-due .ensures) (o .enum-told .given .1) in
     first-refuses _ (c .enum-told4 .given .1) (c .before .before .check-length .ensures ws e ∙ due)
 
 entry-length-requires : tie.Need-entry-length-requires
@@ -38,12 +38,12 @@ returns-3 c =
     let o = l .before .before .before in
     let s = o .before .before .before in
     let sized = passed (l .enum-told3 .given .1) (l .before .before .check-length .ensures ws e) in
-    let due = said-due (s .args .t) a (s .args .r) ws _ (o .before .before .check-due .ensures) (o .enum-told .given .1) in
+    let due = said-due (s .args .fit) a (s .args .reply) ws _ (o .before .before .check-due .ensures) (o .enum-told .given .1) in
     let size = c .before .entry-length .ensures
-    ∙ ap (λ (k : ℕ). entrySize k (s .args .t .shape .n)) (c .before .before .kind-of .ensures)
-    ∙ entry-size (s .args .t .shape .n) (s .args .r) ws (length-passed (s .args .t .shape .n) (s .args .r) ws sized) in
+    ∙ ap (λ (k : ℕ). entrySize k (s .args .fit .shape .n)) (c .before .before .kind-of .ensures)
+    ∙ entry-size (s .args .fit .shape .n) (s .args .reply) ws (length-passed (s .args .fit .shape .n) (s .args .reply) ws sized) in
     c .check-room .ensures
-    ∙ ap (λ (k : ℕ). when (ltb (s .args .room) (s .args .t .extra .words + k)) (refuse 12 0 0)) size
+    ∙ ap (λ (k : ℕ). when (ltb (s .args .room) (s .args .fit .extra .words + k)) (refuse 12 0 0)) size
     ∙ rest-decides _ (sym due ∙ sized)
 
 pub check-reply-spec : {M : Type 1} → statement M

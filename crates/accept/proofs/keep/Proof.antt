@@ -1,6 +1,6 @@
 -- `accept::keep` meets its contract: logged, and the fit advanced. Assumes nothing.
 use borrow.Author.Needs.{needs}
-use Rattle.replay.specs.Taken.{replied}
+use Rattle.driver.specs.Replies.{replied}
 use Rattle.accept.proofs.Replying.{said-passed}
 use Rattle.accept.proofs.keep.Statement.{statement}
 use Rattle.accept.proofs.keep.Tie as tie
@@ -8,12 +8,12 @@ use Rattle.accept.proofs.keep.Tie as tie
 log-entry-requires : tie.Need-log-entry-requires
 log-entry-requires c κs =
     let s = c .before .before .before .before in
-    said-passed (s .args .t) (s .args .area .now) (s .args .log .now) (replied (s .args .r) (s .args .gradient .now)) (s .pre .1) .1
+    said-passed (s .args .fit) (s .args .area .now) (s .args .log .now) (replied (s .args .reply) (s .args .gradient .now)) (s .pre .1) .1
 
 advanced-requires : tie.Need-advanced-requires
 advanced-requires c κs =
     let s = c .before .before .before .before .before .before .before .before in
-    (s .pre .0, said-passed (s .args .t) (s .args .area .now) (s .args .log .now) (replied (s .args .r) (s .args .gradient .now)) (s .pre .1) .0)
+    (s .pre .0, said-passed (s .args .fit) (s .args .area .now) (s .args .log .now) (replied (s .args .reply) (s .args .gradient .now)) (s .pre .1) .0)
 
 returns : tie.Need-returns
 returns c = (c .before .before .advanced .ensures, c .before .before .before .before .before .before .log-entry .ensures)

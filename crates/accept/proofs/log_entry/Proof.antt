@@ -7,7 +7,7 @@ use borrow.Author.Needs.{needs}
 use lib.ListN.{length, length-set}
 use Rattle.definition.specs.Log.{entryWords}
 use Rattle.driver.specs.declared.Reply.{Reply}
-use Rattle.replay.specs.Taken.{replied}
+use Rattle.driver.specs.Replies.{replied}
 use Rattle.accept.specs.Moves.{entryKind}
 use Rattle.accept.proofs.Laws.{entry-long, written-length, put-one, put-value, put-gradient}
 use Rattle.accept.proofs.log_entry.Statement.{statement}
@@ -20,14 +20,14 @@ entry-is ws e = ap (λ (p : Reply). entryWords (replied p ws)) e
 slice-write-log : tie.Need-slice-write-log
 slice-write-log c =
     let s = c .before .before .before in
-    let h = entry-long (s .args .r) (s .args .gradient .now) in
+    let h = entry-long (s .args .reply) (s .args .gradient .now) in
     let p = s .pre in
     omega arith
 
 slice-write-log-2 : tie.Need-slice-write-log-2
 slice-write-log-2 c =
     let s = c .before .before .before .before .before .before in
-    let z = ap length (entry-is (s .args .gradient .now) (c .before .r .given .1)) in
+    let z = ap length (entry-is (s .args .gradient .now) (c .before .reply .given .1)) in
     let p = s .pre in
     simp length-set (omega (arith, z, p))
 
@@ -41,7 +41,7 @@ log-gradient-requires c κs =
 returns : tie.Need-returns
 returns c =
     let s = c .before .before .before .before .before .before in
-    let e = c .before .r .given .1 in
+    let e = c .before .reply .given .1 in
     put-value _ _ (s .args .at) _ _ (c .before .before .before .kind-of .ensures ∙ ap entryKind e) (entry-is (s .args .gradient .now) e) (s .pre)
 
 returns-2 : tie.Need-returns-2
@@ -56,7 +56,7 @@ returns-2 c =
 same-length-2 : tie.Need-same-length-2
 same-length-2 c =
     let s = c .before .before .before .before .before .before .before .before .before in
-    ap length (returns-2 c) ∙ written-length (s .args .at) (entryWords (replied (s .args .r) (s .args .gradient .now))) (s .args .log .now) (s .pre)
+    ap length (returns-2 c) ∙ written-length (s .args .at) (entryWords (replied (s .args .reply) (s .args .gradient .now))) (s .args .log .now) (s .pre)
 
 returns-3 : tie.Need-returns-3
 returns-3 c =

@@ -14,7 +14,7 @@ write-requires c κs =
 returns : tie.Need-returns
 returns c =
     let a = c .before .before .before .before .before .before .before .before .before .before .before .before .args in
-    record-put (a .t) (now (a .area)) (now (a .log)) (now (a .out)) _ (c .before .before .write .ensures)
+    record-put (a .fit) (now (a .area)) (now (a .log)) (now (a .out)) _ (c .before .before .write .ensures)
 
 pub put-record-spec : {M : Type 1} → statement M
 put-record-spec =

@@ -16,7 +16,7 @@ returns : tie.Need-returns
 returns c =
     let r = c .before .before .before .before in
     let a = r .before .before .before .before .before .before .args in
-    (r .replay-record .ensures, subst (λ (q : Replayed). Reloads q (a .input .now) (a .f) (a .log .now) (a .log .now)) (sym (c .enum-told .given .1)) refl)
+    (r .replay-record .ensures, subst (λ (q : Replayed). Reloads q (a .input .now) (a .frame) (a .log .now) (a .log .now)) (sym (c .enum-told .given .1)) refl)
 
 mul : tie.Need-mul-copy-entries
 mul c =
@@ -35,12 +35,12 @@ copy-entries-requires c κs =
     let s = e .before .before .before .before .before .before in
     let a = s .args in
     let r = e .replay-record in
-    let entries = entriesIn (a .input .now) (a .f) in
+    let entries = entriesIn (a .input .now) (a .frame) in
     let room = length (a .log .now) in
     let h = subst
-    (λ (q : Replayed). Builds (setupIn (wordsIn (a .input .now) (a .f))) entries (a .f .words - a .f .setup) room (a .area .now) q (r .last .0))
+    (λ (q : Replayed). Builds (setupIn (wordsIn (a .input .now) (a .frame))) entries (a .frame .words - a .frame .setup) room (a .area .now) q (r .last .0))
     (b .built .given .1) (r .ensures) in
-    copies-within (a .input .now) (length (a .area .now)) (a .o) (a .f) (s .pre) h
+    copies-within (a .input .now) (length (a .area .now)) (a .options) (a .frame) (s .pre) h
 
 returns-2 : tie.Need-returns-2
 returns-2 c =
@@ -48,10 +48,10 @@ returns-2 c =
     let e = b .before .before .before .before in
     let a = e .before .before .before .before .before .before .args in
     let r = e .replay-record in
-    let entries = entriesIn (a .input .now) (a .f) in
+    let entries = entriesIn (a .input .now) (a .frame) in
     let room = length (a .log .now) in
     let h = subst
-    (λ (q : Replayed). Builds (setupIn (wordsIn (a .input .now) (a .f))) entries (a .f .words - a .f .setup) room (a .area .now) q (r .last .0))
+    (λ (q : Replayed). Builds (setupIn (wordsIn (a .input .now) (a .frame))) entries (a .frame .words - a .frame .setup) room (a .area .now) q (r .last .0))
     (b .built .given .1) (r .ensures) in
     (h, c .before .before .copy-entries .ensures)
 

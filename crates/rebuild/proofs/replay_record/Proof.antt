@@ -11,13 +11,13 @@ use Rattle.rebuild.proofs.replay_record.Statement.{statement}
 use Rattle.rebuild.proofs.replay_record.Tie as tie
 
 vectors-requires : tie.Need-vectors-requires
-vectors-requires c κs = let s = c .before .before .before in opened-room (s .args .input .now) (length (s .args .area .now)) (s .args .o) (s .args .f) (s .pre)
+vectors-requires c κs = let s = c .before .before .before in opened-room (s .args .input .now) (length (s .args .area .now)) (s .args .options) (s .args .frame) (s .pre)
 
 begin-from-requires : tie.Need-begin-from-requires
 begin-from-requires c κs =
     let s = c .before .before .before .before .before .before in
     let long : length (c .before .before .vectors .result) ≡ 768 = search needs in
-    (opens-room (s .args .input .now) (length (s .args .area .now)) (s .args .o) (s .args .f) (s .pre), omega (arith, long, s .pre .most))
+    (opens-room (s .args .input .now) (length (s .args .area .now)) (s .args .options) (s .args .frame) (s .pre), omega (arith, long, s .pre .most))
 
 sub-words : tie.Need-sub-words
 sub-words c =
@@ -41,10 +41,10 @@ replay-requires c κs =
     let s = v .before .before .before .before in
     let r = b .begin-from in
     let a = s .args in
-    let k = record-opened (a .input .now) (length (a .area .now)) (a .o) (a .f) (s .pre)
+    let k = record-opened (a .input .now) (length (a .area .now)) (a .options) (a .frame) (s .pre)
     (v .vectors .ensures) (r .ensures) in (
-      record { logged = λ e. absurd (false≢true (sym e)); recorded = λ e. entries-within (a .input .now) (length (a .area .now)) (a .o) (a .f) (s .pre) },
-      record-ready (a .input .now) (length (a .area .now)) (a .o) (a .f) (s .pre) refl k,
+      record { logged = λ e. absurd (false≢true (sym e)); recorded = λ e. entries-within (a .input .now) (length (a .area .now)) (a .options) (a .frame) (s .pre) },
+      record-ready (a .input .now) (length (a .area .now)) (a .options) (a .frame) (s .pre) refl k,
       k .entries,
       k .words,
     )
@@ -60,7 +60,7 @@ returns c =
     let v = r .before .before .before in
     let s = v .before .before .before .before in
     let a = s .args in
-    let k = record-opened (a .input .now) (length (a .area .now)) (a .o) (a .f) (s .pre)
+    let k = record-opened (a .input .now) (length (a .area .now)) (a .options) (a .frame) (s .pre)
     (v .vectors .ensures) (r .begin-from .ensures) in
     builds k (p .replay .result) (p .replay .last .1 .0) (q .settle .last .0) (p .replay .ensures) (q .settle .ensures)
 

@@ -10,7 +10,7 @@ use Rattle.rebuild.proofs.settle.Tie as tie
 mark-requires : tie.Need-mark-requires
 mark-requires c κs =
     let s = c .before .before .before .before .before .before in
-    subst (λ (r : Replayed). Markable r (length (s .args .area .now))) (c .before .before .before .r .given .1) (s .pre)
+    subst (λ (r : Replayed). Markable r (length (s .args .area .now))) (c .before .before .before .replayed .given .1) (s .pre)
 
 returns : tie.Need-returns
 returns c =
@@ -22,7 +22,7 @@ returns-2 : tie.Need-returns-2
 returns-2 c =
     let s = c .before .before .before .before .before .before .before .before .before in
     let m = c .before .before .mark in
-    subst (λ (r : Replayed). Settles r (s .args .area .now) (m .last .0)) (sym (c .before .before .before .before .before .before .r .given .1)) (m .ensures)
+    subst (λ (r : Replayed). Settles r (s .args .area .now) (m .last .0)) (sym (c .before .before .before .before .before .before .replayed .given .1)) (m .ensures)
 
 pub settle-spec : {M : Type 1} → statement M
 settle-spec =

@@ -7,7 +7,7 @@ use Rattle.held.proofs.Test.{ready-facts}
 use Rattle.replay.specs.Replays.{sourceWords}
 use Rattle.replay.specs.Taken.{gradientAt}
 use Rattle.replay.proofs.Entries.{gradient-fits}
-use Rattle.replay.proofs.Answers.{gradient-steps, other-steps}
+use Rattle.driver.proofs.Answers.{gradient-steps, other-steps}
 use Rattle.replay.proofs.take_entry.Statement.{statement}
 use Rattle.replay.proofs.take_entry.Tie as tie
 

@@ -18,12 +18,11 @@ use Rattle.fit.specs.State.{machine, machineOf, phaseOf, Steps}
 use Rattle.fit.specs.declared.Fit.{Fit}
 use Rattle.area.proofs.Laws.{saved-refl, saved-upd}
 use Rattle.fit.proofs.Laws.{put, steps-as, steps-at}
-use Rattle.driver.specs.Replies.{advanced}
+use Rattle.driver.specs.Replies.{replied, isDue, advanced}
 use Rattle.driver.specs.declared.Reply.{Reply}
 use Rattle.driver.specs.declared.Reply.the-variants as R
 use Rattle.driver.proofs.Reply.{the-type}
 use Rattle.driver.proofs.Steps.{gradient-answered}
-use Rattle.replay.specs.Taken.{replied, isDue}
 
 -- ---- the terms stay
 
