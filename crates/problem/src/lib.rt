@@ -9,7 +9,8 @@ ghost use Rattle.definition.specs.Number.{infinity, negInfinity};
 ghost use Rattle.definition.specs.Problem.{refuse, _then_, given, checkSide, checkPair, checkBounds, positive as positiveOf};
 ghost use Rattle.definition.specs.Problem.{finitePositive, finiteNonnegative, atMost, orElse, either};
 ghost use Rattle.definition.specs.Problem.{checkProblem, checkCommon, checkOptions, checkLimits, validate as validateOf};
-ghost use Rattle.problem.specs.Setups.{floatOf, countOf, boxOf, setupIn, checkOf, eachFinite, eachNumber, eachPair, noOptions, limitsOf, limitsIn, placesIn};
+ghost use Rattle.problem.specs.Setups.{floatOf, countOf, boxOf, setupIn, checkOf, eachFinite, eachNumber, eachPair};
+ghost use Rattle.problem.specs.Setups.{noOptions, limitsOf, limitsIn, placesIn};
 
 // What applies where a setup does not say, as in the Rust.
 const DEFAULT_BUDGET: usize = 15_000;
