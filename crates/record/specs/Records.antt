@@ -140,8 +140,8 @@ abbrev pub shapeOf : Options → ℕ → ℕ
 shapeOf o n = n + 256 * orElse (countOf (o .maxcor)) 0 + 65536 * (cond (o .bounded) 1 0 + schemeFlag (schemeOf (o .scheme)))
 
 -- the seven words ahead of the vectors
-abbrev pub headWords : Options → ℕ → List ℕ
-headWords o n =
+abbrev pub leadingWords : Options → ℕ → List ℕ
+leadingWords o n =
     shapeOf o n
     ∷ orElse (countOf (o .maxiter)) 0
     ∷ orElse (countOf (o .maxfev)) 0

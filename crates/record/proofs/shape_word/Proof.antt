@@ -8,17 +8,17 @@ use Rattle.record.proofs.shape_word.Tie as tie
 
 add-flags : tie.Need-add-flags
 add-flags c =
-    let o = c .before .before .args .o in
+    let o = c .before .before .args .options in
     omega (arith, c .before .box-flag .ensures, box-small (o .bounded), c .scheme-flag .ensures, scheme-small (schemeOf (o .scheme)))
 
 mul-result-2 : tie.Need-mul-result-2
 mul-result-2 c =
-    let o = c .before .before .before .args .o in
+    let o = c .before .before .before .args .options in
     omega (arith, c .before .before .box-flag .ensures, box-small (o .bounded), c .before .scheme-flag .ensures, scheme-small (schemeOf (o .scheme)))
 
 add-result-2 : tie.Need-add-result-2
 add-result-2 c =
-    let o = c .before .before .before .args .o in
+    let o = c .before .before .before .args .options in
     omega (arith, c .before .before .box-flag .ensures, box-small (o .bounded), c .before .scheme-flag .ensures, scheme-small (schemeOf (o .scheme)))
 
 returns : tie.Need-returns
