@@ -19,7 +19,7 @@ use Rattle.problem.specs.Setups as P
 use Rattle.problem.specs.Setups.{floatOf, countOf, schemeOf, refusalOf}
 use Rattle.record.specs.declared.Sums.{Sums}
 use Rattle.record.specs.declared.Frame.{Frame}
-use Rattle.record.specs.declared.Shape.{Shape}
+use Rattle.record.specs.declared.FirstWord.{FirstWord}
 use Rattle.record.specs.declared.Parsed.{Parsed}
 use Rattle.record.specs.declared.Parsed.the-variants as A
 
@@ -80,7 +80,7 @@ pub record Formed (bs : List ℕ) (f : Frame) : Type 0 where
 
 -- ---- the setup
 
-pub record ShapeIn (w : ℕ) (h : Shape) : Type 0 where
+pub record FirstWordIn (w : ℕ) (h : FirstWord) : Type 0 where
   pub bounded : h .bounded ≡ hasBox w
   pub maxcor : countOf (h .maxcor) ≡ countGiven (maxcorIn w)
   pub scheme : schemeOf (h .scheme) ≡ schemeIn w
@@ -136,13 +136,13 @@ Parsing bs area (A.Setup o f) = Opens bs area o f
 -- ---- writing
 
 -- word 0 of a setup of n coordinates
-abbrev pub shapeOf : Options → ℕ → ℕ
-shapeOf o n = n + 256 * orElse (countOf (o .maxcor)) 0 + 65536 * (cond (o .bounded) 1 0 + schemeFlag (schemeOf (o .scheme)))
+abbrev pub firstWord : Options → ℕ → ℕ
+firstWord o n = n + 256 * orElse (countOf (o .maxcor)) 0 + 65536 * (cond (o .bounded) 1 0 + schemeFlag (schemeOf (o .scheme)))
 
 -- the seven words ahead of the vectors
 abbrev pub leadingWords : Options → ℕ → List ℕ
 leadingWords o n =
-    shapeOf o n
+    firstWord o n
     ∷ orElse (countOf (o .maxiter)) 0
     ∷ orElse (countOf (o .maxfev)) 0
     ∷ optionalFloat (floatOf (o .tol))

@@ -17,8 +17,8 @@ ghost use Rattle.definition.specs.Record.{floatGiven, countGiven, hasBox, setup
 ghost use Rattle.definition.specs.Record.{optionalFloat, schemeFlag, setupWords, bytes};
 ghost use Rattle.problem.specs.Setups.{floatOf, countOf, schemeOf, checkOf, setupIn as setupOf};
 ghost use Rattle.record.specs.Records.{sumsOf, setupSize, entrySize, framedIn, frameIn, wordsIn, sumsAgree, Placed};
-ghost use Rattle.record.specs.Records.{Formed, ShapeIn, OptionsIn, floatsOf, setupFrom, refusedBy, Parsing};
-ghost use Rattle.record.specs.Records.{shapeOf, leadingWords, Savable, savedWords, savedRecord, Summed, trailerOf, overwritten};
+ghost use Rattle.record.specs.Records.{Formed, FirstWordIn, OptionsIn, floatsOf, setupFrom, refusedBy, Parsing};
+ghost use Rattle.record.specs.Records.{firstWord, leadingWords, Savable, savedWords, savedRecord, Summed, trailerOf, overwritten};
 
 // The one version that is read and written.
 const VERSION: u64 = 1;
@@ -291,16 +291,16 @@ fn scheme_in(word: u64) -> Scheme
 }
 
 // What word 0 of a setup says besides n.
-struct Shape {
+struct FirstWord {
     bounded: bool,
     maxcor: MaybeCount,
     scheme: Scheme,
 }
 
-fn shape_in(word: u64) -> Shape
-    ensures { λ r. ⌜ ShapeIn word r ⌝ }
+fn first_word_in(word: u64) -> FirstWord
+    ensures { λ r. ⌜ FirstWordIn word r ⌝ }
 {
-    Shape {
+    FirstWord {
         bounded: has_box(word),
         maxcor: count_given(word / 256 % 256),
         scheme: scheme_in(word),
@@ -328,11 +328,11 @@ fn options_of(input: &[u8], frame: Frame) -> Options
     requires { ⌜ Placed (now input) frame ⌝ }
     ensures { λ r. ⌜ OptionsIn (wordsIn (now (input .entry)) frame) r ⌝ }
 {
-    let shape = shape_in(word_of(input, frame.at, frame.words, 0));
-    let maxcor = shape.maxcor;
-    let scheme = shape.scheme;
+    let first = first_word_in(word_of(input, frame.at, frame.words, 0));
+    let maxcor = first.maxcor;
+    let scheme = first.scheme;
     Options {
-        bounded: shape.bounded,
+        bounded: first.bounded,
         maxiter: count_of(input, frame, 1),
         maxfev: count_of(input, frame, 2),
         tol: float_of(input, frame, 3),
@@ -476,9 +476,9 @@ fn box_flag(bounded: bool) -> u64
 }
 
 // Word 0 of a setup of n coordinates.
-fn shape_word(options: Options, n: usize) -> u64
+fn first_word(options: Options, n: usize) -> u64
     requires { ⌜ (n ≤ 255) × (orElse (countOf (options .maxcor)) 0 ≤ 255) ⌝ }
-    ensures { λ r. ⌜ r ≡ shapeOf options n ⌝ }
+    ensures { λ r. ⌜ r ≡ firstWord options n ⌝ }
 {
     let maxcor = options.maxcor;
     let scheme = options.scheme;
@@ -500,7 +500,7 @@ fn leading_word(options: Options, n: usize, i: usize) -> u64
     let gtol = options.gtol;
     let eps = options.eps;
     if i == 0 {
-        return shape_word(options, n);
+        return first_word(options, n);
     }
     if i == 1 {
         return count_word(maxiter);

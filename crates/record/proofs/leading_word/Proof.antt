@@ -7,7 +7,7 @@ use Rattle.record.proofs.leading_word.Statement.{statement}
 use Rattle.record.proofs.leading_word.Tie as tie
 
 returns : tie.Need-returns
-returns c = rw (c .before .if1 .taken) (c .shape-word .ensures)
+returns c = rw (c .before .if1 .taken) (c .first-word .ensures)
 
 returns-7 : tie.Need-returns-7
 returns-7 c =

@@ -1,10 +1,10 @@
--- `record::shape_word` meets its contract. Assumes nothing.
+-- `record::first_word` meets its contract. Assumes nothing.
 use native.Mathlib.Omega.{arith}
 use borrow.Author.Needs.{needs}
 use Rattle.record.proofs.Saving.{box-small, scheme-small}
 use Rattle.problem.specs.Setups.{schemeOf}
-use Rattle.record.proofs.shape_word.Statement.{statement}
-use Rattle.record.proofs.shape_word.Tie as tie
+use Rattle.record.proofs.first_word.Statement.{statement}
+use Rattle.record.proofs.first_word.Tie as tie
 
 add-flags : tie.Need-add-flags
 add-flags c =
@@ -24,8 +24,8 @@ add-result-2 c =
 returns : tie.Need-returns
 returns c = search needs
 
-pub shape-word-spec : {M : Type 1} → statement M
-shape-word-spec =
+pub first-word-spec : {M : Type 1} → statement M
+first-word-spec =
     tie.close
     (tie.spec
     (λ c κs. search needs)
