@@ -38,7 +38,7 @@ pub record Fits (options : Options) (n : ℕ) (l u : List Float) : Type 0 where
 
 -- ---- the vectors
 
--- bounds that hold nothing back, where there are none
+-- infinite bounds, where there are none
 abbrev pub boxed : Bool → ℕ → Vecs → Vecs
 boxed true n v = v
 boxed false n v = upd (upd v Lower (P.openBounds n .lower)) Upper (P.openBounds n .upper)

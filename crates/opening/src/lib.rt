@@ -13,7 +13,7 @@ use fit::Phase;
 use fit::Place;
 use problem::Options;
 
-// Bounds that hold nothing back, where the setup has none.
+// Infinite bounds, where the setup has none.
 fn open_box(area: &mut [f64], n: usize, bounded: bool)
     requires { ⌜ firstPair * n ≤ length (now area) ⌝ }
     ensures { λ _. ⌜ view (now (area .exit)) n ≡ boxed bounded n (view (now (area .entry)) n) ⌝ }
