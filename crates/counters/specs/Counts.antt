@@ -12,7 +12,7 @@ use Rattle.counters.specs.declared.Termination.the-variants.{GTol, FTol,
 use Rattle.counters.specs.declared.Termination.the-variants.{Nonfinite, LineSearchFailed, ObjectiveFailed}
 
 abbrev pub countersOf : Counters → C.Counters
-countersOf k = record { nit = k .nit; nfev = k .nfev; njev = k .njev }
+countersOf counters = record { nit = counters .nit; nfev = counters .nfev; njev = counters .njev }
 
 abbrev pub terminationOf : Termination → C.Termination
 terminationOf GTol = C.Termination.gtol
@@ -31,14 +31,14 @@ mostCounted = 2 ^ 62
 -- ---- a value question, charged only while the budget lasts
 
 abbrev pub valueCharged : P.Limits → C.Counters → C.Counters
-valueCharged l k = cond (C.valueLeft l k) (C.chargeValue k) k
+valueCharged limits counters = cond (C.valueLeft limits counters) (C.chargeValue counters) counters
 
 abbrev pub chargedIf : Bool → C.Counters → Option C.Counters
-chargedIf left k = cond left (some k) none
+chargedIf left counters = cond left (some counters) none
 
 abbrev pub valueCharge : P.Limits → C.Counters → Option C.Counters
-valueCharge l k = chargedIf (C.valueLeft l k) (C.chargeValue k)
+valueCharge limits counters = chargedIf (C.valueLeft limits counters) (C.chargeValue counters)
 
 abbrev pub chargeOf : Charge → Option C.Counters
 chargeOf Spent = none
-chargeOf (Charged k) = some (countersOf k)
+chargeOf (Charged counters) = some (countersOf counters)

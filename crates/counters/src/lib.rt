@@ -34,10 +34,10 @@ pub enum Charge {
 }
 
 // Document 01's number of a termination.
-pub fn status_number(t: Termination) -> usize
-    ensures { λ r. ⌜ r ≡ statusNumber (terminationOf t) ⌝ }
+pub fn status_number(termination: Termination) -> usize
+    ensures { λ r. ⌜ r ≡ statusNumber (terminationOf termination) ⌝ }
 {
-    match t {
+    match termination {
         Termination::GTol => 1,
         Termination::FTol => 2,
         Termination::MaxIterations => 3,
@@ -61,119 +61,119 @@ pub fn first_counters() -> Counters
 }
 
 // Whether the budget of values lasts for another.
-fn value_left(l: Limits, k: Counters) -> bool
-    ensures { λ r. ⌜ r ≡ valueLeft (limitsOf l) (countersOf k) ⌝ }
+fn value_left(limits: Limits, counters: Counters) -> bool
+    ensures { λ r. ⌜ r ≡ valueLeft (limitsOf limits) (countersOf counters) ⌝ }
 {
-    k.nfev < l.maxfev
+    counters.nfev < limits.maxfev
 }
 
 // A value question charged, while the budget lasts.
-fn charge_value(l: Limits, k: Counters) -> Counters
-    ensures { λ r. ⌜ countersOf r ≡ valueCharged (limitsOf l) (countersOf k) ⌝ }
+fn charge_value(limits: Limits, counters: Counters) -> Counters
+    ensures { λ r. ⌜ countersOf r ≡ valueCharged (limitsOf limits) (countersOf counters) ⌝ }
 {
-    if value_left(l, k) {
+    if value_left(limits, counters) {
         return Counters {
-            nit: k.nit,
-            nfev: k.nfev + 1,
-            njev: k.njev,
+            nit: counters.nit,
+            nfev: counters.nfev + 1,
+            njev: counters.njev,
         };
     }
-    k
+    counters
 }
 
 // A gradient charged: supplied, or differenced and complete.
-fn charge_gradient(k: Counters) -> Counters
-    requires { ⌜ k .njev < mostCounted ⌝ }
-    ensures { λ r. ⌜ countersOf r ≡ chargeGradientOf (countersOf k) ⌝ }
+fn charge_gradient(counters: Counters) -> Counters
+    requires { ⌜ counters .njev < mostCounted ⌝ }
+    ensures { λ r. ⌜ countersOf r ≡ chargeGradientOf (countersOf counters) ⌝ }
 {
     Counters {
-        nit: k.nit,
-        nfev: k.nfev,
-        njev: k.njev + 1,
+        nit: counters.nit,
+        nfev: counters.nfev,
+        njev: counters.njev + 1,
     }
 }
 
 // An iteration charged, before its notice.
-fn charge_iteration(k: Counters) -> Counters
-    requires { ⌜ k .nit < mostCounted ⌝ }
-    ensures { λ r. ⌜ countersOf r ≡ chargeIterationOf (countersOf k) ⌝ }
+fn charge_iteration(counters: Counters) -> Counters
+    requires { ⌜ counters .nit < mostCounted ⌝ }
+    ensures { λ r. ⌜ countersOf r ≡ chargeIterationOf (countersOf counters) ⌝ }
 {
     Counters {
-        nit: k.nit + 1,
-        nfev: k.nfev,
-        njev: k.njev,
+        nit: counters.nit + 1,
+        nfev: counters.nfev,
+        njev: counters.njev,
     }
 }
 
 // Whether the budget of iterations is spent, looked at after the notice.
-pub fn iterations_spent(l: Limits, k: Counters) -> bool
-    ensures { λ r. ⌜ r ≡ iterationsSpent (limitsOf l) (countersOf k) ⌝ }
+pub fn iterations_spent(limits: Limits, counters: Counters) -> bool
+    ensures { λ r. ⌜ r ≡ iterationsSpent (limitsOf limits) (countersOf counters) ⌝ }
 {
-    l.maxiter <= k.nit
+    limits.maxiter <= counters.nit
 }
 
 // `Counters::value`: charges a value question and says so, or says that the budget is spent and charges nothing.
-fn value(l: Limits, k: &mut Counters) -> bool
-    ensures { λ r. ⌜ (countersOf (now (k .exit)) ≡ valueCharged (limitsOf l) (countersOf (now (k .entry))))
-        × (r ≡ valueLeft (limitsOf l) (countersOf (now (k .entry)))) ⌝ }
+fn value(limits: Limits, counters: &mut Counters) -> bool
+    ensures { λ r. ⌜ (countersOf (now (counters .exit)) ≡ valueCharged (limitsOf limits) (countersOf (now (counters .entry))))
+        × (r ≡ valueLeft (limitsOf limits) (countersOf (now (counters .entry)))) ⌝ }
 {
-    let c = *k;
-    let left = value_left(l, c);
-    *k = charge_value(l, c);
+    let before = *counters;
+    let left = value_left(limits, before);
+    *counters = charge_value(limits, before);
     left
 }
 
 // `Counters::charge_gradient`
-fn gradient(k: &mut Counters)
-    requires { ⌜ now k .njev < mostCounted ⌝ }
-    ensures { λ _. ⌜ countersOf (now (k .exit)) ≡ chargeGradientOf (countersOf (now (k .entry))) ⌝ }
+fn gradient(counters: &mut Counters)
+    requires { ⌜ now counters .njev < mostCounted ⌝ }
+    ensures { λ _. ⌜ countersOf (now (counters .exit)) ≡ chargeGradientOf (countersOf (now (counters .entry))) ⌝ }
 {
-    *k = charge_gradient(*k);
+    *counters = charge_gradient(*counters);
 }
 
 // The count of `Counters::end_iteration`
-fn iteration(k: &mut Counters)
-    requires { ⌜ now k .nit < mostCounted ⌝ }
-    ensures { λ _. ⌜ countersOf (now (k .exit)) ≡ chargeIterationOf (countersOf (now (k .entry))) ⌝ }
+fn iteration(counters: &mut Counters)
+    requires { ⌜ now counters .nit < mostCounted ⌝ }
+    ensures { λ _. ⌜ countersOf (now (counters .exit)) ≡ chargeIterationOf (countersOf (now (counters .entry))) ⌝ }
 {
-    *k = charge_iteration(*k);
+    *counters = charge_iteration(*counters);
 }
 
 // The counters with a value question charged, or `Spent`.
-fn charge_of(left: bool, k: Counters) -> Charge
-    ensures { λ r. ⌜ chargeOf r ≡ chargedIf left (countersOf k) ⌝ }
+fn charge_of(left: bool, counters: Counters) -> Charge
+    ensures { λ r. ⌜ chargeOf r ≡ chargedIf left (countersOf counters) ⌝ }
 {
     if left {
-        return Charge::Charged(k);
+        return Charge::Charged(counters);
     }
     Charge::Spent
 }
 
 // `value` for a caller that has the counters by value.
-pub fn value_charged(l: Limits, k: Counters) -> Charge
-    ensures { λ r. ⌜ chargeOf r ≡ valueCharge (limitsOf l) (countersOf k) ⌝ }
+pub fn value_charged(limits: Limits, counters: Counters) -> Charge
+    ensures { λ r. ⌜ chargeOf r ≡ valueCharge (limitsOf limits) (countersOf counters) ⌝ }
 {
-    let mut c = k;
-    let left = value(l, &mut c);
-    charge_of(left, c)
+    let mut charged = counters;
+    let left = value(limits, &mut charged);
+    charge_of(left, charged)
 }
 
 // `gradient` for a caller that has the counters by value.
-pub fn gradient_charged(k: Counters) -> Counters
-    requires { ⌜ k .njev < mostCounted ⌝ }
-    ensures { λ r. ⌜ countersOf r ≡ chargeGradientOf (countersOf k) ⌝ }
+pub fn gradient_charged(counters: Counters) -> Counters
+    requires { ⌜ counters .njev < mostCounted ⌝ }
+    ensures { λ r. ⌜ countersOf r ≡ chargeGradientOf (countersOf counters) ⌝ }
 {
-    let mut c = k;
-    gradient(&mut c);
-    c
+    let mut charged = counters;
+    gradient(&mut charged);
+    charged
 }
 
 // `iteration` for a caller that has the counters by value.
-pub fn iteration_charged(k: Counters) -> Counters
-    requires { ⌜ k .nit < mostCounted ⌝ }
-    ensures { λ r. ⌜ countersOf r ≡ chargeIterationOf (countersOf k) ⌝ }
+pub fn iteration_charged(counters: Counters) -> Counters
+    requires { ⌜ counters .nit < mostCounted ⌝ }
+    ensures { λ r. ⌜ countersOf r ≡ chargeIterationOf (countersOf counters) ⌝ }
 {
-    let mut c = k;
-    iteration(&mut c);
-    c
+    let mut charged = counters;
+    iteration(&mut charged);
+    charged
 }

@@ -61,13 +61,13 @@ pub fn is_nan(x: f64) -> bool
 }
 
 // The float of any word. `from_bits` is not defined at the words of NaNs.
-pub fn word_to_float(w: u64) -> f64
-    ensures { λ r. ⌜ r ≡ toFloat w ⌝ }
+pub fn word_to_float(word: u64) -> f64
+    ensures { λ r. ⌜ r ≡ toFloat word ⌝ }
 {
-    if INFINITY_WORD < w % SIGN_BIT {
+    if INFINITY_WORD < word % SIGN_BIT {
         return 0.0 / 0.0;
     }
-    f64::from_bits(w)
+    f64::from_bits(word)
 }
 
 // The word of any float: one word for every NaN, where `to_bits` is not defined.
@@ -95,23 +95,23 @@ pub fn is_finite(x: f64) -> bool
 }
 
 // The smaller of two: a NaN is passed over, and of equal values the first is taken.
-pub fn min(a: f64, b: f64) -> f64
-    ensures { λ r. ⌜ r ≡ minOf a b ⌝ }
+pub fn min(first: f64, second: f64) -> f64
+    ensures { λ r. ⌜ r ≡ minOf first second ⌝ }
 {
-    if a != a {
-        return b;
+    if first != first {
+        return second;
     }
-    if b < a { b } else { a }
+    if second < first { second } else { first }
 }
 
 // The larger of two, by the same rules.
-pub fn max(a: f64, b: f64) -> f64
-    ensures { λ r. ⌜ r ≡ maxOf a b ⌝ }
+pub fn max(first: f64, second: f64) -> f64
+    ensures { λ r. ⌜ r ≡ maxOf first second ⌝ }
 {
-    if a != a {
-        return b;
+    if first != first {
+        return second;
     }
-    if a < b { b } else { a }
+    if first < second { second } else { first }
 }
 
 // x, brought between low and high. A NaN stays.
@@ -128,28 +128,28 @@ pub fn clamp(x: f64, low: f64, high: f64) -> f64
 fn word_above(x: f64) -> u64
     ensures { λ r. ⌜ r ≡ upBits (toWord x) ⌝ }
 {
-    let w = float_to_word(x);
-    if w == INFINITY_WORD {
-        return w;
+    let word = float_to_word(x);
+    if word == INFINITY_WORD {
+        return word;
     }
-    if w % SIGN_BIT == 0 {
+    if word % SIGN_BIT == 0 {
         return 1;
     }
-    if w < SIGN_BIT { w + 1 } else { w - 1 }
+    if word < SIGN_BIT { word + 1 } else { word - 1 }
 }
 
 // The word of the next float below x.
 fn word_below(x: f64) -> u64
     ensures { λ r. ⌜ r ≡ downBits (toWord x) ⌝ }
 {
-    let w = float_to_word(x);
-    if w == NEG_INFINITY_WORD {
-        return w;
+    let word = float_to_word(x);
+    if word == NEG_INFINITY_WORD {
+        return word;
     }
-    if w % SIGN_BIT == 0 {
+    if word % SIGN_BIT == 0 {
         return SIGN_BIT + 1;
     }
-    if w < SIGN_BIT { w - 1 } else { w + 1 }
+    if word < SIGN_BIT { word - 1 } else { word + 1 }
 }
 
 // The next float above. A NaN stays.
@@ -176,17 +176,17 @@ pub fn next_down(x: f64) -> f64
 fn total_key(x: f64) -> u64
     ensures { λ r. ⌜ r ≡ totalKey x ⌝ }
 {
-    let w = float_to_word(x);
-    if w < SIGN_BIT {
-        w + SIGN_BIT
+    let word = float_to_word(x);
+    if word < SIGN_BIT {
+        word + SIGN_BIT
     } else {
-        0xFFFF_FFFF_FFFF_FFFF - w
+        0xFFFF_FFFF_FFFF_FFFF - word
     }
 }
 
-// Whether a stands before b, or level with it, in the order of `total_cmp`.
-pub fn total_le(a: f64, b: f64) -> bool
-    ensures { λ r. ⌜ r ≡ totalLe a b ⌝ }
+// Whether the first stands before the second, or level with it, in the order of `total_cmp`.
+pub fn total_le(first: f64, second: f64) -> bool
+    ensures { λ r. ⌜ r ≡ totalLe first second ⌝ }
 {
-    total_key(a) <= total_key(b)
+    total_key(first) <= total_key(second)
 }

@@ -23,22 +23,22 @@ use Rattle.fit.specs.declared.Fit.{Fit}
 
 -- the setup that options and vectors hold
 abbrev pub setupAt : Options → Vecs → P.Setup
-setupAt o v = setupIn o (v X0) (v Lower) (v Upper)
+setupAt options v = setupIn options (v X0) (v Lower) (v Upper)
 
 -- room for n coordinates and the pairs that the options allow
-pub record Room (o : Options) (n size : ℕ) : Type 0 where
-  pub all : vectors (placesIn o) * n ≤ size
-  pub few : placesIn o ≤ P.mostPairs
-  pub some : 0 < placesIn o
+pub record Room (options : Options) (n size : ℕ) : Type 0 where
+  pub all : vectors (placesIn options) * n ≤ size
+  pub few : placesIn options ≤ P.mostPairs
+  pub some : 0 < placesIn options
 
 -- the bounds are as long as the start, where they count
-pub record Fits (o : Options) (n : ℕ) (l u : List Float) : Type 0 where
-  pub lower : o .bounded ≡ true → length l ≡ n
-  pub upper : o .bounded ≡ true → length u ≡ n
+pub record Fits (options : Options) (n : ℕ) (l u : List Float) : Type 0 where
+  pub lower : options .bounded ≡ true → length l ≡ n
+  pub upper : options .bounded ≡ true → length u ≡ n
 
 -- ---- the vectors
 
--- bounds that hold nothing back, where there are none
+-- infinite bounds, where there are none
 abbrev pub boxed : Bool → ℕ → Vecs → Vecs
 boxed true n v = v
 boxed false n v = upd (upd v Lower (P.openBounds n .lower)) Upper (P.openBounds n .upper)
@@ -48,9 +48,9 @@ abbrev pub clipped : ℕ → Vecs → List Float
 clipped n v = tab n (λ i. P.inBox (boxOf (v Lower) (v Upper)) i (word (v X0) i))
 
 -- a setup's start and bounds stand in the vectors v, which were a
-pub record Stored (bounded : Bool) (x0 l u : List Float) (a v : Vecs) : Type 0 where
+pub record Stored (bounded : Bool) (x0 lower upper : List Float) (a v : Vecs) : Type 0 where
   pub start : v X0 ≡ x0
-  pub bounds : boundsIn bounded (v Lower) (v Upper) ≡ boundsIn bounded l u
+  pub bounds : boundsIn bounded (v Lower) (v Upper) ≡ boundsIn bounded lower upper
   pub free : FreeKept a v
 
 -- every vector that is read before it is next written
@@ -61,13 +61,13 @@ firstVectors n v =
 -- ---- the state at the first question
 
 abbrev pub firstShape : Options → ℕ → Shape
-firstShape o n = record { n = n; m = placesIn o; pairs = 0; oldest = 0 }
+firstShape options n = record { n = n; m = placesIn options; pairs = 0; oldest = 0 }
 
 -- the machine at the first question, its vectors as they stand
 abbrev pub firstMachine : Options → ℕ → Vecs → M.Machine
-firstMachine o n v = record {
-  terms = record { n = n; bounds = boxOf (v Lower) (v Upper); maxcor = placesIn o; eps = floatOf (o .eps); scheme = schemeOf (o .scheme) };
-  limits = limitsIn o;
+firstMachine options n v = record {
+  terms = record { n = n; bounds = boxOf (v Lower) (v Upper); maxcor = placesIn options; eps = floatOf (options .eps); scheme = schemeOf (options .scheme) };
+  limits = limitsIn options;
   held = M.state (v X) zero64 (v G);
   compact = noPairs;
   trial = M.state (v Trial) zero64 (v TrialGradient);
@@ -79,24 +79,24 @@ firstMachine o n v = record {
   phase = M.Phase.value M.Place.start;
 }
 
-pub record First (o : Options) (n : ℕ) (r : Fit) : Type 0 where
-  pub options : r .options ≡ o
-  pub entries : r .extra .entries ≡ 0
-  pub words : r .extra .words ≡ 0
-  pub shape : r .shape ≡ firstShape o n
-  pub settled : Settled (r .search)
-  pub is : (v : Vecs) → machine r v ≡ firstMachine o n v
+pub record First (o : Options) (n : ℕ) (fit : Fit) : Type 0 where
+  pub options : fit .options ≡ o
+  pub entries : fit .extra .entries ≡ 0
+  pub words : fit .extra .words ≡ 0
+  pub shape : fit .shape ≡ firstShape o n
+  pub settled : Settled (fit .search)
+  pub is : (v : Vecs) → machine fit v ≡ firstMachine o n v
 
--- r with the area b, which was a, is the machine that the setup s begins with, and s can be read off them again
-pub record Opened (o : Options) (k : ℕ) (s : P.Setup) (a : List Float) (r : Fit) (b : List Float) : Type 0 where
-  pub options : r .options ≡ o
-  pub entries : r .extra .entries ≡ 0
-  pub words : r .extra .words ≡ 0
-  pub n : r .shape .n ≡ k
-  pub m : r .shape .m ≡ placesIn o
-  pub long : length b ≡ length a
-  pub sound : Sound (r .shape) (length b)
-  pub settled : Settled (r .search)
-  pub setup : setupAt o (view b k) ≡ s
-  pub free : FreeKept (view a k) (view b k)
-  pub is : machineOf r b ≡ D.begin s
+-- the fit with the area `after`, which was `before`, is the machine that the setup s begins with, and s can be read off them again
+pub record Opened (o : Options) (k : ℕ) (s : P.Setup) (before : List Float) (fit : Fit) (after : List Float) : Type 0 where
+  pub options : fit .options ≡ o
+  pub entries : fit .extra .entries ≡ 0
+  pub words : fit .extra .words ≡ 0
+  pub n : fit .shape .n ≡ k
+  pub m : fit .shape .m ≡ placesIn o
+  pub long : length after ≡ length before
+  pub sound : Sound (fit .shape) (length after)
+  pub settled : Settled (fit .search)
+  pub setup : setupAt o (view after k) ≡ s
+  pub free : FreeKept (view before k) (view after k)
+  pub is : machineOf fit after ≡ D.begin s

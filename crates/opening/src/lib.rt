@@ -13,7 +13,7 @@ use fit::Phase;
 use fit::Place;
 use problem::Options;
 
-// Bounds that hold nothing back, where the setup has none.
+// Infinite bounds, where the setup has none.
 fn open_box(area: &mut [f64], n: usize, bounded: bool)
     requires { ⌜ firstPair * n ≤ length (now area) ⌝ }
     ensures { λ _. ⌜ view (now (area .exit)) n ≡ boxed bounded n (view (now (area .entry)) n) ⌝ }
@@ -28,7 +28,7 @@ fn open_box(area: &mut [f64], n: usize, bounded: bool)
 // The start brought into the box.
 fn clip_start(area: &mut [f64], n: usize)
     requires { ⌜ firstPair * n ≤ length (now area) ⌝ }
-    ensures { λ _. ⌜ (let v = view (now (area .entry)) n in view (now (area .exit)) n ≡ upd v X (clipped n v)) ⌝ }
+    ensures { λ _. ⌜ (let before = view (now (area .entry)) n in view (now (area .exit)) n ≡ upd before X (clipped n before)) ⌝ }
 {
     let mut i = 0;
     while i < n {
@@ -53,20 +53,20 @@ fn first_vectors(area: &mut [f64], n: usize)
 }
 
 // The state at the first question.
-fn first_fit(o: Options, n: usize) -> Fit
-    ensures { λ r. ⌜ First o n r ⌝ }
+fn first_fit(options: Options, n: usize) -> Fit
+    ensures { λ r. ⌜ First options n r ⌝ }
 {
-    let limits = problem::in_force(o);
+    let limits = problem::in_force(options);
     let counters = counters::first_counters();
     let search = search::no_search();
     Fit {
         shape: Shape {
             n: n,
-            m: problem::places(o),
+            m: problem::places(options),
             pairs: 0,
             oldest: 0,
         },
-        options: o,
+        options: options,
         limits: limits,
         counters: counters,
         phase: Phase::Value(Place::Start),
@@ -84,13 +84,13 @@ fn first_fit(o: Options, n: usize) -> Fit
 }
 
 // From the setup that stands in options and area, whatever else the area holds.
-pub fn reset(o: Options, area: &mut [f64], n: usize) -> Fit
-    requires { ⌜ Room o n (length (now area)) ⌝ }
-    ensures { λ r. ⌜ Opened o n (setupAt o (view (now (area .entry)) n)) (now (area .entry)) r (now (area .exit)) ⌝ }
+pub fn reset(options: Options, area: &mut [f64], n: usize) -> Fit
+    requires { ⌜ Room options n (length (now area)) ⌝ }
+    ensures { λ r. ⌜ Opened options n (setupAt options (view (now (area .entry)) n)) (now (area .entry)) r (now (area .exit)) ⌝ }
 {
-    open_box(area, n, o.bounded);
+    open_box(area, n, options.bounded);
     first_vectors(area, n);
-    first_fit(o, n)
+    first_fit(options, n)
 }
 
 // A setup's vectors into the area: the bounds only where they count.
@@ -107,12 +107,12 @@ fn store_setup(area: &mut [f64], n: usize, bounded: bool, x0: &[f64], lower: &[f
 }
 
 // From a setup: no word of the area that is ever read stays from before.
-pub fn begin(o: Options, area: &mut [f64], x0: &[f64], lower: &[f64], upper: &[f64]) -> Fit
-    requires { ⌜ Room o (length (now x0)) (length (now area)) × Fits o (length (now x0)) (now lower) (now upper) ⌝ }
-    ensures { λ r. ⌜ Opened o (length (now (x0 .entry))) (setupIn o (now (x0 .entry)) (now (lower .entry)) (now (upper .entry))) (now (area .entry)) r
-        (now (area .exit)) ⌝ }
+pub fn begin(options: Options, area: &mut [f64], x0: &[f64], lower: &[f64], upper: &[f64]) -> Fit
+    requires { ⌜ Room options (length (now x0)) (length (now area)) × Fits options (length (now x0)) (now lower) (now upper) ⌝ }
+    ensures { λ r. ⌜ Opened options (length (now (x0 .entry))) (setupIn options (now (x0 .entry)) (now (lower .entry)) (now (upper .entry)))
+        (now (area .entry)) r (now (area .exit)) ⌝ }
 {
     let n = x0.len();
-    store_setup(area, n, o.bounded, x0, lower, upper);
-    reset(o, area, n)
+    store_setup(area, n, options.bounded, x0, lower, upper);
+    reset(options, area, n)
 }

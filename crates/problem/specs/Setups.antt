@@ -22,11 +22,11 @@ use Rattle.problem.specs.declared.Checked.the-variants.{Passed, Refused}
 
 abbrev pub floatOf : MaybeFloat → Option Float
 floatOf F.Absent = none
-floatOf (F.Given v) = some v
+floatOf (F.Given x) = some x
 
 abbrev pub countOf : MaybeCount → Option ℕ
 countOf K.Absent = none
-countOf (K.Given k) = some k
+countOf (K.Given count) = some count
 
 abbrev pub schemeOf : Scheme → P.Scheme
 schemeOf Forward = P.Scheme.forward
@@ -47,33 +47,33 @@ noOptions = record {
 }
 
 abbrev pub boxOf : List Float → List Float → P.Bounds
-boxOf l u = record { lower = l; upper = u }
+boxOf lower upper = record { lower = lower; upper = upper }
 
 abbrev pub boundsIn : Bool → List Float → List Float → Option P.Bounds
-boundsIn true l u = some (boxOf l u)
-boundsIn false l u = none
+boundsIn true lower upper = some (boxOf lower upper)
+boundsIn false lower upper = none
 
 -- the setup of options, start and bounds, which count only where the options say so
 abbrev pub setupIn : Options → List Float → List Float → List Float → P.Setup
-setupIn o x0 l u = record {
+setupIn options x0 lower upper = record {
   x0 = x0;
-  bounds = boundsIn (o .bounded) l u;
-  maxiter = countOf (o .maxiter);
-  maxfev = countOf (o .maxfev);
-  tol = floatOf (o .tol);
-  ftol = floatOf (o .ftol);
-  gtol = floatOf (o .gtol);
-  maxcor = countOf (o .maxcor);
-  eps = floatOf (o .eps);
-  scheme = schemeOf (o .scheme);
+  bounds = boundsIn (options .bounded) lower upper;
+  maxiter = countOf (options .maxiter);
+  maxfev = countOf (options .maxfev);
+  tol = floatOf (options .tol);
+  ftol = floatOf (options .ftol);
+  gtol = floatOf (options .gtol);
+  maxcor = countOf (options .maxcor);
+  eps = floatOf (options .eps);
+  scheme = schemeOf (options .scheme);
 }
 
 abbrev pub refusalOf : Refusal → P.Refusal
-refusalOf r = record { number = r .number; first = r .first; second = r .second }
+refusalOf refusal = record { number = refusal .number; first = refusal .first; second = refusal .second }
 
 abbrev pub checkOf : Checked → P.Check
 checkOf Passed = none
-checkOf (Refused r) = some (refusalOf r)
+checkOf (Refused refusal) = some (refusalOf refusal)
 
 -- the checks of a whole vector, index by index
 abbrev pub eachFinite : List Float → P.Check
@@ -83,14 +83,15 @@ abbrev pub eachNumber : List Float → P.Check
 eachNumber side = P.eachIndex (length side) (λ i. P.when (isNan (word side i)) (P.refuse 4 i 0))
 
 abbrev pub eachPair : P.Bounds → P.Check
-eachPair b = P.eachIndex (length (b .lower)) (P.checkPair b)
+eachPair bounds = P.eachIndex (length (bounds .lower)) (P.checkPair bounds)
 
 abbrev pub limitsOf : Limits → P.Limits
-limitsOf l = record { ftol = l .ftol; gtol = l .gtol; maxiter = l .maxiter; maxfev = l .maxfev }
+limitsOf limits = record { ftol = limits .ftol; gtol = limits .gtol; maxiter = limits .maxiter; maxfev = limits .maxfev }
 
--- The limits in force and the number of pairs do not turn on the vectors: `limitsIn o` is `P.limitsOf (setupIn o x0 l u)` for any, by computation.
+-- The limits in force and the number of pairs do not turn on the vectors: `limitsIn options` is `P.limitsOf (setupIn options x0 lower upper)` for any,
+-- by computation.
 abbrev pub limitsIn : Options → P.Limits
-limitsIn o = P.limitsOf (setupIn o [] [] [])
+limitsIn options = P.limitsOf (setupIn options [] [] [])
 
 abbrev pub placesIn : Options → ℕ
-placesIn o = P.maxcorOf (setupIn o [] [] [])
+placesIn options = P.maxcorOf (setupIn options [] [] [])

@@ -9,7 +9,8 @@ ghost use Rattle.definition.specs.Number.{infinity, negInfinity};
 ghost use Rattle.definition.specs.Problem.{refuse, _then_, given, checkSide, checkPair, checkBounds, positive as positiveOf};
 ghost use Rattle.definition.specs.Problem.{finitePositive, finiteNonnegative, atMost, orElse, either};
 ghost use Rattle.definition.specs.Problem.{checkProblem, checkCommon, checkOptions, checkLimits, validate as validateOf};
-ghost use Rattle.problem.specs.Setups.{floatOf, countOf, boxOf, setupIn, checkOf, eachFinite, eachNumber, eachPair, noOptions, limitsOf, limitsIn, placesIn};
+ghost use Rattle.problem.specs.Setups.{floatOf, countOf, boxOf, setupIn, checkOf, eachFinite, eachNumber, eachPair};
+ghost use Rattle.problem.specs.Setups.{noOptions, limitsOf, limitsIn, placesIn};
 
 // What applies where a setup does not say, as in the Rust.
 const DEFAULT_BUDGET: usize = 15_000;
@@ -101,12 +102,12 @@ pub fn refused(number: usize, first: usize, second: usize) -> Checked
 }
 
 // The first of two checks that refuses.
-pub fn first_of(a: Checked, b: Checked) -> Checked
-    ensures { λ r. ⌜ checkOf r ≡ (checkOf a then checkOf b) ⌝ }
+pub fn first_of(first: Checked, second: Checked) -> Checked
+    ensures { λ r. ⌜ checkOf r ≡ (checkOf first then checkOf second) ⌝ }
 {
-    match a {
-        Checked::Passed => b,
-        Checked::Refused(_) => a,
+    match first {
+        Checked::Passed => second,
+        Checked::Refused(_) => first,
     }
 }
 
@@ -207,25 +208,25 @@ fn check_bounds(n: usize, lower: &[f64], upper: &[f64]) -> Checked
 }
 
 // `Problem::validate`: the start, 1 and 2, then the box where there is one.
-fn check_problem(o: Options, x0: &[f64], lower: &[f64], upper: &[f64]) -> Checked
-    ensures { λ r. ⌜ checkOf r ≡ checkProblem (setupIn o (now (x0 .entry)) (now (lower .entry)) (now (upper .entry))) ⌝ }
+fn check_problem(options: Options, x0: &[f64], lower: &[f64], upper: &[f64]) -> Checked
+    ensures { λ r. ⌜ checkOf r ≡ checkProblem (setupIn options (now (x0 .entry)) (now (lower .entry)) (now (upper .entry))) ⌝ }
 {
     let n = x0.len();
     if n == 0 {
         return refused(1, 0, 0);
     }
     let start = check_start(x0);
-    if o.bounded {
+    if options.bounded {
         return first_of(start, check_bounds(n, lower, upper));
     }
     start
 }
 
 // 7 for a count of zero.
-fn positive(option: usize, k: MaybeCount) -> Checked
-    ensures { λ r. ⌜ checkOf r ≡ given (positiveOf option) (countOf k) ⌝ }
+fn positive(option: usize, maybe: MaybeCount) -> Checked
+    ensures { λ r. ⌜ checkOf r ≡ given (positiveOf option) (countOf maybe) ⌝ }
 {
-    let MaybeCount::Given(count) = k else {
+    let MaybeCount::Given(count) = maybe else {
         return Checked::Passed;
     };
     if count == 0 {
@@ -235,10 +236,10 @@ fn positive(option: usize, k: MaybeCount) -> Checked
 }
 
 // 8 for a number that is not finite and positive.
-fn finite_positive(option: usize, v: MaybeFloat) -> Checked
-    ensures { λ r. ⌜ checkOf r ≡ given (finitePositive option) (floatOf v) ⌝ }
+fn finite_positive(option: usize, maybe: MaybeFloat) -> Checked
+    ensures { λ r. ⌜ checkOf r ≡ given (finitePositive option) (floatOf maybe) ⌝ }
 {
-    let MaybeFloat::Given(x) = v else {
+    let MaybeFloat::Given(x) = maybe else {
         return Checked::Passed;
     };
     if !float::is_finite(x) {
@@ -251,10 +252,10 @@ fn finite_positive(option: usize, v: MaybeFloat) -> Checked
 }
 
 // 9 for a number that is not finite and at least 0.
-fn finite_nonnegative(option: usize, v: MaybeFloat) -> Checked
-    ensures { λ r. ⌜ checkOf r ≡ given (finiteNonnegative option) (floatOf v) ⌝ }
+fn finite_nonnegative(option: usize, maybe: MaybeFloat) -> Checked
+    ensures { λ r. ⌜ checkOf r ≡ given (finiteNonnegative option) (floatOf maybe) ⌝ }
 {
-    let MaybeFloat::Given(x) = v else {
+    let MaybeFloat::Given(x) = maybe else {
         return Checked::Passed;
     };
     if !float::is_finite(x) {
@@ -267,10 +268,10 @@ fn finite_nonnegative(option: usize, v: MaybeFloat) -> Checked
 }
 
 // 10 for a count over its limit.
-fn at_most(limit: usize, detail: usize, k: MaybeCount) -> Checked
-    ensures { λ r. ⌜ checkOf r ≡ given (atMost limit detail) (countOf k) ⌝ }
+fn at_most(limit: usize, detail: usize, maybe: MaybeCount) -> Checked
+    ensures { λ r. ⌜ checkOf r ≡ given (atMost limit detail) (countOf maybe) ⌝ }
 {
-    let MaybeCount::Given(count) = k else {
+    let MaybeCount::Given(count) = maybe else {
         return Checked::Passed;
     };
     if limit < count {
@@ -280,12 +281,12 @@ fn at_most(limit: usize, detail: usize, k: MaybeCount) -> Checked
 }
 
 // `Common::validate`: maxiter, maxfev, tol.
-fn check_common(o: Options) -> Checked
-    ensures { λ r. ⌜ ((x0 l u : List Float) → checkOf r ≡ checkCommon (setupIn o x0 l u)) ⌝ }
+fn check_common(options: Options) -> Checked
+    ensures { λ r. ⌜ ((x0 lower upper : List Float) → checkOf r ≡ checkCommon (setupIn options x0 lower upper)) ⌝ }
 {
-    let maxiter = o.maxiter;
-    let maxfev = o.maxfev;
-    let tol = o.tol;
+    let maxiter = options.maxiter;
+    let maxfev = options.maxfev;
+    let tol = options.tol;
     first_of(
         positive(1, maxiter),
         first_of(positive(2, maxfev), finite_positive(1, tol)),
@@ -293,13 +294,13 @@ fn check_common(o: Options) -> Checked
 }
 
 // `LbfgsbOptions::validate`: ftol, gtol, maxcor, eps.
-fn check_options(o: Options) -> Checked
-    ensures { λ r. ⌜ ((x0 l u : List Float) → checkOf r ≡ checkOptions (setupIn o x0 l u)) ⌝ }
+fn check_options(options: Options) -> Checked
+    ensures { λ r. ⌜ ((x0 lower upper : List Float) → checkOf r ≡ checkOptions (setupIn options x0 lower upper)) ⌝ }
 {
-    let ftol = o.ftol;
-    let gtol = o.gtol;
-    let maxcor = o.maxcor;
-    let eps = o.eps;
+    let ftol = options.ftol;
+    let gtol = options.gtol;
+    let maxcor = options.maxcor;
+    let eps = options.eps;
     let others = first_of(positive(3, maxcor), finite_positive(2, eps));
     first_of(
         finite_nonnegative(1, ftol),
@@ -308,13 +309,13 @@ fn check_options(o: Options) -> Checked
 }
 
 // The added limits: n, maxcor, maxiter, maxfev.
-fn check_limits(o: Options, x0: &[f64]) -> Checked
-    ensures { λ r. ⌜ ((l u : List Float) → checkOf r ≡ checkLimits (setupIn o (now (x0 .entry)) l u)) ⌝ }
+fn check_limits(options: Options, x0: &[f64]) -> Checked
+    ensures { λ r. ⌜ ((lower upper : List Float) → checkOf r ≡ checkLimits (setupIn options (now (x0 .entry)) lower upper)) ⌝ }
 {
     let n = MaybeCount::Given(x0.len());
-    let maxcor = o.maxcor;
-    let maxiter = o.maxiter;
-    let maxfev = o.maxfev;
+    let maxcor = options.maxcor;
+    let maxiter = options.maxiter;
+    let maxfev = options.maxfev;
     let budgets = first_of(
         at_most(MOST_BUDGET, 3, maxiter),
         at_most(MOST_BUDGET, 4, maxfev),
@@ -324,31 +325,31 @@ fn check_limits(o: Options, x0: &[f64]) -> Checked
 }
 
 // The setup's rows of the table, in the order printed: problem, common, options, added limits.
-pub fn validate(o: Options, x0: &[f64], lower: &[f64], upper: &[f64]) -> Checked
-    ensures { λ r. ⌜ checkOf r ≡ validateOf (setupIn o (now (x0 .entry)) (now (lower .entry)) (now (upper .entry))) ⌝ }
+pub fn validate(options: Options, x0: &[f64], lower: &[f64], upper: &[f64]) -> Checked
+    ensures { λ r. ⌜ checkOf r ≡ validateOf (setupIn options (now (x0 .entry)) (now (lower .entry)) (now (upper .entry))) ⌝ }
 {
-    let problem = check_problem(o, x0, lower, upper);
-    let options = first_of(check_options(o), check_limits(o, x0));
-    first_of(problem, first_of(check_common(o), options))
+    let problem = check_problem(options, x0, lower, upper);
+    let rest = first_of(check_options(options), check_limits(options, x0));
+    first_of(problem, first_of(check_common(options), rest))
 }
 
 // A count, or its default.
-fn count_or(k: MaybeCount, default: usize) -> usize
-    ensures { λ r. ⌜ r ≡ orElse (countOf k) default ⌝ }
+fn count_or(maybe: MaybeCount, default: usize) -> usize
+    ensures { λ r. ⌜ r ≡ orElse (countOf maybe) default ⌝ }
 {
-    match k {
+    match maybe {
         MaybeCount::Given(count) => count,
         MaybeCount::Absent => default,
     }
 }
 
 // A tolerance, or the one it falls back to, or its default.
-fn float_or(a: MaybeFloat, b: MaybeFloat, default: f64) -> f64
-    ensures { λ r. ⌜ r ≡ orElse (either (floatOf a) (floatOf b)) default ⌝ }
+fn float_or(tolerance: MaybeFloat, fallback: MaybeFloat, default: f64) -> f64
+    ensures { λ r. ⌜ r ≡ orElse (either (floatOf tolerance) (floatOf fallback)) default ⌝ }
 {
-    match a {
+    match tolerance {
         MaybeFloat::Given(x) => x,
-        MaybeFloat::Absent => match b {
+        MaybeFloat::Absent => match fallback {
             MaybeFloat::Given(x) => x,
             MaybeFloat::Absent => default,
         },
@@ -356,14 +357,14 @@ fn float_or(a: MaybeFloat, b: MaybeFloat, default: f64) -> f64
 }
 
 // The limits that a setup puts in force: ftol and gtol fall back to tol, then to the defaults; budgets to 15,000.
-pub fn in_force(o: Options) -> Limits
-    ensures { λ r. ⌜ limitsOf r ≡ limitsIn o ⌝ }
+pub fn in_force(options: Options) -> Limits
+    ensures { λ r. ⌜ limitsOf r ≡ limitsIn options ⌝ }
 {
-    let ftol = o.ftol;
-    let gtol = o.gtol;
-    let tol = o.tol;
-    let maxiter = o.maxiter;
-    let maxfev = o.maxfev;
+    let ftol = options.ftol;
+    let gtol = options.gtol;
+    let tol = options.tol;
+    let maxiter = options.maxiter;
+    let maxfev = options.maxfev;
     Limits {
         ftol: float_or(ftol, tol, float::DEFAULT_FTOL),
         gtol: float_or(gtol, tol, float::DEFAULT_GTOL),
@@ -373,9 +374,9 @@ pub fn in_force(o: Options) -> Limits
 }
 
 // The pairs that a setup allows, 10 where it does not say.
-pub fn places(o: Options) -> usize
-    ensures { λ r. ⌜ r ≡ placesIn o ⌝ }
+pub fn places(options: Options) -> usize
+    ensures { λ r. ⌜ r ≡ placesIn options ⌝ }
 {
-    let maxcor = o.maxcor;
+    let maxcor = options.maxcor;
     count_or(maxcor, DEFAULT_MAXCOR)
 }

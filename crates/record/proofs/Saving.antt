@@ -23,7 +23,7 @@ use Rattle.problem.specs.declared.Options.{Options}
 use Rattle.problem.specs.Setups as P
 use Rattle.problem.specs.Setups.{countOf}
 use Rattle.record.specs.declared.Sums.{Sums}
-use Rattle.record.specs.Records.{sumsOf, setupSize, headWords, Savable, savedWords, savedRecord, Summed, trailerOf, overwritten}
+use Rattle.record.specs.Records.{sumsOf, setupSize, leadingWords, Savable, savedWords, savedRecord, Summed, trailerOf, overwritten}
 use Rattle.record.proofs.Words.{put, put-append, put-length, bytes-count}
 
 -- ---- the setup's words by number
@@ -44,7 +44,7 @@ flag-is : (t : Bool) (l u : List Float) → boxFlag (P.boundsIn t l u) ≡ cond 
 flag-is true l u = refl
 flag-is false l u = refl
 
-pub setup-spelled : (o : Options) (x0 l u : List Float) → setupWords (P.setupIn o x0 l u) ≡ headWords o (length x0) ++ (map toWord x0 ++ sideWords o l u)
+pub setup-spelled : (o : Options) (x0 l u : List Float) → setupWords (P.setupIn o x0 l u) ≡ leadingWords o (length x0) ++ (map toWord x0 ++ sideWords o l u)
 unfolding setupWords
 setup-spelled o x0 l u = rw (flag-is (o .bounded) l u)
 
@@ -68,15 +68,15 @@ pub bound-second : (l u : List Float) (k : ℕ) (d : Float) → length l ≤ k �
 bound-second l u k d h m = float-word u (k - length l) d (omega arith) ∙ second-at (map toWord l) (map toWord u) k (length l) (length-map l toWord) h
 
 module _ (o : Options) (x0 l u : List Float) where
-  pub head-at : (i : ℕ) → i < 7 → getD (headWords o (length x0)) i 0 ≡ getD (setupWords (P.setupIn o x0 l u)) i 0
-  head-at i h =
-      sym (ap (λ (ws : List ℕ). getD ws i 0) (setup-spelled o x0 l u) ∙ List·getD-append (headWords o (length x0)) (map toWord x0 ++ sideWords o l u) 0 i h)
+  pub leading-at : (i : ℕ) → i < 7 → getD (leadingWords o (length x0)) i 0 ≡ getD (setupWords (P.setupIn o x0 l u)) i 0
+  leading-at i h =
+      sym (ap (λ (ws : List ℕ). getD ws i 0) (setup-spelled o x0 l u) ∙ List·getD-append (leadingWords o (length x0)) (map toWord x0 ++ sideWords o l u) 0 i h)
 
   pub start-at : (i : ℕ) (d : Float) → 7 ≤ i → i - 7 < length x0 → toWord (getD x0 (i - 7) d) ≡ getD (setupWords (P.setupIn o x0 l u)) i 0
   start-at i d h k =
       float-word x0 (i - 7) d k
       ∙ sym (List·getD-append (map toWord x0) (sideWords o l u) 0 (i - 7) (omega (arith, length-map x0 toWord)))
-      ∙ second-at (headWords o (length x0)) (map toWord x0 ++ sideWords o l u) i 7 refl h
+      ∙ second-at (leadingWords o (length x0)) (map toWord x0 ++ sideWords o l u) i 7 refl h
       ∙ sym (ap (λ (ws : List ℕ). getD ws i 0) (setup-spelled o x0 l u))
 
   boxed : (t : Bool) → o .bounded ≡ t → (i : ℕ) → 7 ≤ i → length x0 ≤ i - 7 → i < setupSize t (length x0) → o .bounded ≡ true
@@ -96,7 +96,7 @@ module _ (o : Options) (x0 l u : List Float) where
       let sides : map toWord l ++ map toWord u ≡ sideWords o l u = rw e in
       ap (λ (ws : List ℕ). getD ws (i - 7 - length x0) 0) sides
       ∙ second-at (map toWord x0) (sideWords o l u) (i - 7) (length x0) (length-map x0 toWord) m
-      ∙ second-at (headWords o (length x0)) (map toWord x0 ++ sideWords o l u) i 7 refl h
+      ∙ second-at (leadingWords o (length x0)) (map toWord x0 ++ sideWords o l u) i 7 refl h
       ∙ sym (ap (λ (ws : List ℕ). getD ws i 0) (setup-spelled o x0 l u))
 
   sides-length : Savable o x0 l u → (t : Bool) → o .bounded ≡ t → 7 + (length x0 + length (sideWords o l u)) ≡ setupSize t (length x0)
@@ -108,7 +108,7 @@ module _ (o : Options) (x0 l u : List Float) where
   pub setup-size : Savable o x0 l u → length (setupWords (P.setupIn o x0 l u)) ≡ setupSize (o .bounded) (length x0)
   setup-size s =
       ap length (setup-spelled o x0 l u)
-      ∙ length-append (headWords o (length x0)) (map toWord x0 ++ sideWords o l u)
+      ∙ length-append (leadingWords o (length x0)) (map toWord x0 ++ sideWords o l u)
       ∙ ap (λ (k : ℕ). 7 + k) (length-append (map toWord x0) (sideWords o l u) ∙ ap (λ (k : ℕ). k + length (sideWords o l u)) (length-map x0 toWord))
       ∙ sides-length s (o .bounded) refl
 

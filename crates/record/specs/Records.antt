@@ -19,12 +19,12 @@ use Rattle.problem.specs.Setups as P
 use Rattle.problem.specs.Setups.{floatOf, countOf, schemeOf, refusalOf}
 use Rattle.record.specs.declared.Sums.{Sums}
 use Rattle.record.specs.declared.Frame.{Frame}
-use Rattle.record.specs.declared.Shape.{Shape}
+use Rattle.record.specs.declared.FirstWord.{FirstWord}
 use Rattle.record.specs.declared.Parsed.{Parsed}
 use Rattle.record.specs.declared.Parsed.the-variants as A
 
 abbrev pub sumsOf : Sums → R.Sums
-sumsOf t = record { plain = t .plain; running = t .running }
+sumsOf sums = record { plain = sums .plain; running = sums .running }
 
 -- ---- lengths
 
@@ -34,11 +34,11 @@ setupSize box n = 7 + cond box (3 * n) n
 
 -- how many an entry has by its kind, 0 where the kind is unknown
 abbrev pub entrySize : ℕ → ℕ → ℕ
-entrySize k n =
-    cond (eqb k 1) 2
-    (cond (eqb k 2) (n + 1)
-    (cond (eqb k 0) 0
-    (cond (leb k 6) 1 0)))
+entrySize kind n =
+    cond (eqb kind 1) 2
+    (cond (eqb kind 2) (n + 1)
+    (cond (eqb kind 0) 0
+    (cond (leb kind 6) 1 0)))
 
 -- ---- where a record stands
 
@@ -50,11 +50,11 @@ framedIn bs = not (ltb (length bs) 32) && framed (length bs) (trailerIn bs)
 
 -- the words before the trailer
 abbrev pub wordsIn : List ℕ → Frame → List ℕ
-wordsIn bs f = wordsOf (f .words) (drop (f .at) bs)
+wordsIn bs frame = wordsOf (frame .words) (drop (frame .at) bs)
 
--- from a byte, `count` words whose first is w
+-- from a byte, `count` words, by the first of them
 abbrev pub frameFrom : ℕ → ℕ → ℕ → Frame
-frameFrom at count w = record { at = at; words = count; n = nIn w; setup = setupLength w }
+frameFrom at count word = record { at = at; words = count; n = nIn word; setup = setupLength word }
 
 unfoldable pub frameIn : List ℕ → Frame
 frameIn bs =
@@ -63,13 +63,13 @@ frameIn bs =
     frameFrom at count (getD (wordsOf count (drop at bs)) 0 0)
 
 -- the frame is that of the words ahead of the last four
-pub record Placed (bs : List ℕ) (f : Frame) : Type 0 where
-  pub within : f .at + 8 * f .words + 32 ≡ length bs
-  pub n : f .n ≡ nIn (getD (wordsIn bs f) 0 0)
-  pub setup : f .setup ≡ setupLength (getD (wordsIn bs f) 0 0)
+pub record Placed (bs : List ℕ) (frame : Frame) : Type 0 where
+  pub within : frame .at + 8 * frame .words + 32 ≡ length bs
+  pub n : frame .n ≡ nIn (getD (wordsIn bs frame) 0 0)
+  pub setup : frame .setup ≡ setupLength (getD (wordsIn bs frame) 0 0)
 
 abbrev pub sumsAgree : List ℕ → Frame → Bool
-sumsAgree bs f = sameSums (wordsIn bs f) (getD (trailerIn bs) 0 0) (getD (trailerIn bs) 1 0)
+sumsAgree bs frame = sameSums (wordsIn bs frame) (getD (trailerIn bs) 0 0) (getD (trailerIn bs) 1 0)
 
 -- trailer, sums and form are right
 pub record Formed (bs : List ℕ) (f : Frame) : Type 0 where
@@ -80,21 +80,21 @@ pub record Formed (bs : List ℕ) (f : Frame) : Type 0 where
 
 -- ---- the setup
 
-pub record ShapeIn (w : ℕ) (h : Shape) : Type 0 where
-  pub bounded : h .bounded ≡ hasBox w
-  pub maxcor : countOf (h .maxcor) ≡ countGiven (maxcorIn w)
-  pub scheme : schemeOf (h .scheme) ≡ schemeIn w
+pub record FirstWordIn (word : ℕ) (first : FirstWord) : Type 0 where
+  pub bounded : first .bounded ≡ hasBox word
+  pub maxcor : countOf (first .maxcor) ≡ countGiven (maxcorIn word)
+  pub scheme : schemeOf (first .scheme) ≡ schemeIn word
 
-pub record OptionsIn (ws : List ℕ) (o : Options) : Type 0 where
-  pub bounded : o .bounded ≡ hasBox (getD ws 0 0)
-  pub maxiter : countOf (o .maxiter) ≡ countGiven (getD ws 1 0)
-  pub maxfev : countOf (o .maxfev) ≡ countGiven (getD ws 2 0)
-  pub tol : floatOf (o .tol) ≡ floatGiven (getD ws 3 0)
-  pub ftol : floatOf (o .ftol) ≡ floatGiven (getD ws 4 0)
-  pub gtol : floatOf (o .gtol) ≡ floatGiven (getD ws 5 0)
-  pub maxcor : countOf (o .maxcor) ≡ countGiven (maxcorIn (getD ws 0 0))
-  pub eps : floatOf (o .eps) ≡ floatGiven (getD ws 6 0)
-  pub scheme : schemeOf (o .scheme) ≡ schemeIn (getD ws 0 0)
+pub record OptionsIn (ws : List ℕ) (options : Options) : Type 0 where
+  pub bounded : options .bounded ≡ hasBox (getD ws 0 0)
+  pub maxiter : countOf (options .maxiter) ≡ countGiven (getD ws 1 0)
+  pub maxfev : countOf (options .maxfev) ≡ countGiven (getD ws 2 0)
+  pub tol : floatOf (options .tol) ≡ floatGiven (getD ws 3 0)
+  pub ftol : floatOf (options .ftol) ≡ floatGiven (getD ws 4 0)
+  pub gtol : floatOf (options .gtol) ≡ floatGiven (getD ws 5 0)
+  pub maxcor : countOf (options .maxcor) ≡ countGiven (maxcorIn (getD ws 0 0))
+  pub eps : floatOf (options .eps) ≡ floatGiven (getD ws 6 0)
+  pub scheme : schemeOf (options .scheme) ≡ schemeIn (getD ws 0 0)
 
 -- the floats of words, in an array of 768
 unfoldable pub floatsOf : List ℕ → List Float
@@ -102,11 +102,11 @@ floatsOf ws = map toFloat ws ++ replicate (768 - length ws) zero64
 
 -- the setup by options and a record's words
 abbrev pub setupBy : List ℕ → Options → ℕ → D.Setup
-setupBy ws o n = P.setupIn o (floatsAt ws 7 n) (floatsAt ws (7 + n) n) (floatsAt ws (7 + 2 * n) n)
+setupBy ws options n = P.setupIn options (floatsAt ws 7 n) (floatsAt ws (7 + n) n) (floatsAt ws (7 + 2 * n) n)
 
 -- the setup by options and three vectors of n words one behind the other
 abbrev pub setupFrom : Options → List Float → ℕ → D.Setup
-setupFrom o v n = P.setupIn o (take n v) (take n (drop n v)) (take n (drop (2 * n) v))
+setupFrom options floats n = P.setupIn options (take n floats) (take n (drop n floats)) (take n (drop (2 * n) floats))
 
 -- ---- the answer of the checks ahead of the entries
 
@@ -130,43 +130,43 @@ pub record Opens (bs : List ℕ) (area : ℕ) (o : Options) (f : Frame) : Type 0
 
 -- refused as the definition refuses, whatever the room in the log; or the setup stands
 abbrev pub Parsing : List ℕ → ℕ → Parsed → Type 0
-Parsing bs area (A.Refused c) = (room : ℕ) → readRecord (lengths area room) bs ≡ Reading.refused (refusalOf c)
-Parsing bs area (A.Setup o f) = Opens bs area o f
+Parsing bs area (A.Refused refusal) = (room : ℕ) → readRecord (lengths area room) bs ≡ Reading.refused (refusalOf refusal)
+Parsing bs area (A.Setup options frame) = Opens bs area options frame
 
 -- ---- writing
 
 -- word 0 of a setup of n coordinates
-abbrev pub shapeOf : Options → ℕ → ℕ
-shapeOf o n = n + 256 * orElse (countOf (o .maxcor)) 0 + 65536 * (cond (o .bounded) 1 0 + schemeFlag (schemeOf (o .scheme)))
+abbrev pub firstWord : Options → ℕ → ℕ
+firstWord options n = n + 256 * orElse (countOf (options .maxcor)) 0 + 65536 * (cond (options .bounded) 1 0 + schemeFlag (schemeOf (options .scheme)))
 
 -- the seven words ahead of the vectors
-abbrev pub headWords : Options → ℕ → List ℕ
-headWords o n =
-    shapeOf o n
-    ∷ orElse (countOf (o .maxiter)) 0
-    ∷ orElse (countOf (o .maxfev)) 0
-    ∷ optionalFloat (floatOf (o .tol))
-    ∷ optionalFloat (floatOf (o .ftol))
-    ∷ optionalFloat (floatOf (o .gtol))
-    ∷ optionalFloat (floatOf (o .eps))
+abbrev pub leadingWords : Options → ℕ → List ℕ
+leadingWords options n =
+    firstWord options n
+    ∷ orElse (countOf (options .maxiter)) 0
+    ∷ orElse (countOf (options .maxfev)) 0
+    ∷ optionalFloat (floatOf (options .tol))
+    ∷ optionalFloat (floatOf (options .ftol))
+    ∷ optionalFloat (floatOf (options .gtol))
+    ∷ optionalFloat (floatOf (options .eps))
     ∷ []
 
 -- what every accepted setup keeps to
-pub record Savable (o : Options) (x0 l u : List Float) : Type 0 where
+pub record Savable (options : Options) (x0 l u : List Float) : Type 0 where
   pub most : length x0 ≤ mostCoordinates
-  pub pairs : orElse (countOf (o .maxcor)) 0 ≤ 255
-  pub lower : o .bounded ≡ true → length l ≡ length x0
-  pub upper : o .bounded ≡ true → length u ≡ length x0
+  pub pairs : orElse (countOf (options .maxcor)) 0 ≤ 255
+  pub lower : options .bounded ≡ true → length l ≡ length x0
+  pub upper : options .bounded ≡ true → length u ≡ length x0
 
 -- the words before the trailer, and all of a record's
 abbrev pub savedWords : Options → List Float → List Float → List Float → List ℕ → List ℕ
-savedWords o x0 l u log = R.setupWords (P.setupIn o x0 l u) ++ log
+savedWords options x0 lower upper log = R.setupWords (P.setupIn options x0 lower upper) ++ log
 
 abbrev pub savedRecord : Options → List Float → List Float → List Float → List ℕ → List ℕ
-savedRecord o x0 l u log = savedWords o x0 l u log ++ R.trailer (savedWords o x0 l u log)
+savedRecord options x0 lower upper log = savedWords options x0 lower upper log ++ R.trailer (savedWords options x0 lower upper log)
 
 abbrev pub trailerOf : Sums → ℕ → List ℕ
-trailerOf t count = t .plain ∷ t .running ∷ R.writtenVersion ∷ count ∷ []
+trailerOf sums count = sums .plain ∷ sums .running ∷ R.writtenVersion ∷ count ∷ []
 
 -- bytes in place of as many of the first
 abbrev pub overwritten : List ℕ → List ℕ → List ℕ

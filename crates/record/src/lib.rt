@@ -17,8 +17,8 @@ ghost use Rattle.definition.specs.Record.{floatGiven, countGiven, hasBox, setup
 ghost use Rattle.definition.specs.Record.{optionalFloat, schemeFlag, setupWords, bytes};
 ghost use Rattle.problem.specs.Setups.{floatOf, countOf, schemeOf, checkOf, setupIn as setupOf};
 ghost use Rattle.record.specs.Records.{sumsOf, setupSize, entrySize, framedIn, frameIn, wordsIn, sumsAgree, Placed};
-ghost use Rattle.record.specs.Records.{Formed, ShapeIn, OptionsIn, floatsOf, setupFrom, refusedBy, Parsing};
-ghost use Rattle.record.specs.Records.{shapeOf, headWords, Savable, savedWords, savedRecord, Summed, trailerOf, overwritten};
+ghost use Rattle.record.specs.Records.{Formed, FirstWordIn, OptionsIn, floatsOf, setupFrom, refusedBy, Parsing};
+ghost use Rattle.record.specs.Records.{firstWord, leadingWords, Savable, savedWords, savedRecord, Summed, trailerOf, overwritten};
 
 // The one version that is read and written.
 const VERSION: u64 = 1;
@@ -51,11 +51,11 @@ fn half_at(input: &[u8], at: usize) -> u64
     requires { ⌜ at + 4 ≤ length (now input) ⌝ }
     ensures { λ r. ⌜ (r ≡ numberOf (take 4 (drop at (now (input .entry))))) × (r < 4294967296) ⌝ }
 {
-    let a = byte_at(input, at);
-    let b = byte_at(input, at + 1);
-    let c = byte_at(input, at + 2);
-    let d = byte_at(input, at + 3);
-    a + 256 * (b + 256 * (c + 256 * d))
+    let first = byte_at(input, at);
+    let second = byte_at(input, at + 1);
+    let third = byte_at(input, at + 2);
+    let fourth = byte_at(input, at + 3);
+    first + 256 * (second + 256 * (third + 256 * fourth))
 }
 
 // The word of the eight bytes from `at` on, the lowest first.
@@ -68,24 +68,24 @@ pub fn word_at(input: &[u8], at: usize) -> u64
     low + 0x1_0000_0000 * high
 }
 
-// The four lowest bytes of w, from `at` on.
-fn put_half(out: &mut [u8], at: usize, w: u64)
+// The four lowest bytes of a word, from `at` on.
+fn put_half(out: &mut [u8], at: usize, word: u64)
     requires { ⌜ at + 4 ≤ length (now out) ⌝ }
-    ensures { λ _. ⌜ now (out .exit) ≡ take at (now (out .entry)) ++ bytesOf 4 w ++ drop (at + 4) (now (out .entry)) ⌝ }
+    ensures { λ _. ⌜ now (out .exit) ≡ take at (now (out .entry)) ++ bytesOf 4 word ++ drop (at + 4) (now (out .entry)) ⌝ }
 {
-    out[at] = (w % 256) as u8;
-    out[at + 1] = (w / 256 % 256) as u8;
-    out[at + 2] = (w / 256 / 256 % 256) as u8;
-    out[at + 3] = (w / 256 / 256 / 256 % 256) as u8;
+    out[at] = (word % 256) as u8;
+    out[at + 1] = (word / 256 % 256) as u8;
+    out[at + 2] = (word / 256 / 256 % 256) as u8;
+    out[at + 3] = (word / 256 / 256 / 256 % 256) as u8;
 }
 
-// The eight bytes of w, from `at` on, the lowest first.
-pub fn put_word(out: &mut [u8], at: usize, w: u64)
+// The eight bytes of a word, from `at` on, the lowest first.
+pub fn put_word(out: &mut [u8], at: usize, word: u64)
     requires { ⌜ at + 8 ≤ length (now out) ⌝ }
-    ensures { λ _. ⌜ now (out .exit) ≡ take at (now (out .entry)) ++ bytesOf 8 w ++ drop (at + 8) (now (out .entry)) ⌝ }
+    ensures { λ _. ⌜ now (out .exit) ≡ take at (now (out .entry)) ++ bytesOf 8 word ++ drop (at + 8) (now (out .entry)) ⌝ }
 {
-    put_half(out, at, w);
-    put_half(out, at + 4, w / 0x1_0000_0000);
+    put_half(out, at, word);
+    put_half(out, at + 4, word / 0x1_0000_0000);
 }
 
 // ---- the sums
@@ -97,11 +97,11 @@ pub struct Sums {
 }
 
 // One more word.
-fn added(t: Sums, w: u64) -> Sums
-    ensures { λ r. ⌜ sumsOf r ≡ addedTo w (sumsOf t) ⌝ }
+fn added(sums: Sums, word: u64) -> Sums
+    ensures { λ r. ⌜ sumsOf r ≡ addedTo word (sumsOf sums) ⌝ }
 {
-    let plain = std::num::wrapping_add_u64(t.plain, w);
-    let running = std::num::wrapping_add_u64(t.running, plain);
+    let plain = std::num::wrapping_add_u64(sums.plain, word);
+    let running = std::num::wrapping_add_u64(sums.running, plain);
     Sums {
         plain: plain,
         running: running,
@@ -113,26 +113,26 @@ fn sums_at(input: &[u8], at: usize, count: usize) -> Sums
     requires { ⌜ at + 8 * count ≤ length (now input) ⌝ }
     ensures { λ r. ⌜ sumsOf r ≡ sumsOver (wordsOf count (drop at (now (input .entry)))) ⌝ }
 {
-    let mut t = Sums {
+    let mut sums = Sums {
         plain: 0,
         running: 0,
     };
     let mut i = 0;
     while i < count {
-        t = added(t, word_at(input, at + 8 * i));
+        sums = added(sums, word_at(input, at + 8 * i));
         i += 1;
     }
-    t
+    sums
 }
 
 // ---- lengths
 
 // The words of a setup of n coordinates.
-pub fn setup_words(o: Options, n: usize) -> usize
+pub fn setup_words(options: Options, n: usize) -> usize
     requires { ⌜ n ≤ 65536 ⌝ }
-    ensures { λ r. ⌜ r ≡ setupSize (o .bounded) n ⌝ }
+    ensures { λ r. ⌜ r ≡ setupSize (options .bounded) n ⌝ }
 {
-    if o.bounded {
+    if options.bounded {
         return 7 + 3 * n;
     }
     7 + n
@@ -201,21 +201,21 @@ fn word_of(input: &[u8], at: usize, words: usize, i: usize) -> u64
 }
 
 // The words of a setup, from its first.
-fn setup_length(w: u64) -> usize
-    ensures { λ r. ⌜ r ≡ setupLengthOf w ⌝ }
+fn setup_length(word: u64) -> usize
+    ensures { λ r. ⌜ r ≡ setupLengthOf word ⌝ }
 {
-    let n = (w % 256) as usize;
-    if has_box(w) {
+    let n = (word % 256) as usize;
+    if has_box(word) {
         return 7 + 3 * n;
     }
     7 + n
 }
 
 // Whether word 0 of a setup says that there is a box.
-fn has_box(w: u64) -> bool
-    ensures { λ r. ⌜ r ≡ hasBox w ⌝ }
+fn has_box(word: u64) -> bool
+    ensures { λ r. ⌜ r ≡ hasBox word ⌝ }
 {
-    w / 0x1_0000 % 2 == 1
+    word / 0x1_0000 % 2 == 1
 }
 
 // Where the record stands, by its trailer.
@@ -237,109 +237,109 @@ fn frame_of(input: &[u8]) -> Frame
 }
 
 // Both sums are the trailer's.
-fn sums_agree(input: &[u8], f: Frame) -> bool
-    requires { ⌜ f .at + 8 * f .words + 32 ≡ length (now input) ⌝ }
-    ensures { λ r. ⌜ r ≡ sumsAgree (now (input .entry)) f ⌝ }
+fn sums_agree(input: &[u8], frame: Frame) -> bool
+    requires { ⌜ frame .at + 8 * frame .words + 32 ≡ length (now input) ⌝ }
+    ensures { λ r. ⌜ r ≡ sumsAgree (now (input .entry)) frame ⌝ }
 {
-    let t = sums_at(input, f.at, f.words);
-    let end = f.at + 8 * f.words;
-    if t.plain != word_at(input, end) {
+    let sums = sums_at(input, frame.at, frame.words);
+    let end = frame.at + 8 * frame.words;
+    if sums.plain != word_at(input, end) {
         return false;
     }
-    t.running == word_at(input, end + 8)
+    sums.running == word_at(input, end + 8)
 }
 
 // Fewer words than the setup's, or spare bits in its first.
-fn is_malformed(input: &[u8], f: Frame) -> bool
-    requires { ⌜ Placed (now input) f ⌝ }
-    ensures { λ r. ⌜ r ≡ malformed (wordsIn (now (input .entry)) f) ⌝ }
+fn is_malformed(input: &[u8], frame: Frame) -> bool
+    requires { ⌜ Placed (now input) frame ⌝ }
+    ensures { λ r. ⌜ r ≡ malformed (wordsIn (now (input .entry)) frame) ⌝ }
 {
-    if f.words < f.setup {
+    if frame.words < frame.setup {
         return true;
     }
-    SPARE <= word_of(input, f.at, f.words, 0)
+    SPARE <= word_of(input, frame.at, frame.words, 0)
 }
 
 // A float that may be absent.
-fn float_given(w: u64) -> MaybeFloat
-    ensures { λ r. ⌜ floatOf r ≡ floatGiven w ⌝ }
+fn float_given(word: u64) -> MaybeFloat
+    ensures { λ r. ⌜ floatOf r ≡ floatGiven word ⌝ }
 {
-    if w == ABSENT {
+    if word == ABSENT {
         return MaybeFloat::Absent;
     }
-    MaybeFloat::Given(float::word_to_float(w))
+    MaybeFloat::Given(float::word_to_float(word))
 }
 
 // A count that may be absent.
-fn count_given(k: u64) -> MaybeCount
-    ensures { λ r. ⌜ countOf r ≡ countGiven k ⌝ }
+fn count_given(word: u64) -> MaybeCount
+    ensures { λ r. ⌜ countOf r ≡ countGiven word ⌝ }
 {
-    if k == 0 {
+    if word == 0 {
         return MaybeCount::Absent;
     }
-    MaybeCount::Given(k as usize)
+    MaybeCount::Given(word as usize)
 }
 
 // The scheme of differences, by word 0.
-fn scheme_in(w: u64) -> Scheme
-    ensures { λ r. ⌜ schemeOf r ≡ schemeIn w ⌝ }
+fn scheme_in(word: u64) -> Scheme
+    ensures { λ r. ⌜ schemeOf r ≡ schemeIn word ⌝ }
 {
-    if w / 0x2_0000 % 2 == 1 {
+    if word / 0x2_0000 % 2 == 1 {
         return Scheme::Central;
     }
     Scheme::Forward
 }
 
 // What word 0 of a setup says besides n.
-struct Shape {
+struct FirstWord {
     bounded: bool,
     maxcor: MaybeCount,
     scheme: Scheme,
 }
 
-fn shape_in(w: u64) -> Shape
-    ensures { λ r. ⌜ ShapeIn w r ⌝ }
+fn first_word_in(word: u64) -> FirstWord
+    ensures { λ r. ⌜ FirstWordIn word r ⌝ }
 {
-    Shape {
-        bounded: has_box(w),
-        maxcor: count_given(w / 256 % 256),
-        scheme: scheme_in(w),
+    FirstWord {
+        bounded: has_box(word),
+        maxcor: count_given(word / 256 % 256),
+        scheme: scheme_in(word),
     }
 }
 
 // Word i of the record, a float that may be absent.
-fn float_of(input: &[u8], f: Frame, i: usize) -> MaybeFloat
-    requires { ⌜ Placed (now input) f ⌝ }
-    ensures { λ r. ⌜ floatOf r ≡ floatGiven (getD (wordsIn (now (input .entry)) f) i 0) ⌝ }
+fn float_of(input: &[u8], frame: Frame, i: usize) -> MaybeFloat
+    requires { ⌜ Placed (now input) frame ⌝ }
+    ensures { λ r. ⌜ floatOf r ≡ floatGiven (getD (wordsIn (now (input .entry)) frame) i 0) ⌝ }
 {
-    float_given(word_of(input, f.at, f.words, i))
+    float_given(word_of(input, frame.at, frame.words, i))
 }
 
 // Word i of the record, a count that may be absent.
-fn count_of(input: &[u8], f: Frame, i: usize) -> MaybeCount
-    requires { ⌜ Placed (now input) f ⌝ }
-    ensures { λ r. ⌜ countOf r ≡ countGiven (getD (wordsIn (now (input .entry)) f) i 0) ⌝ }
+fn count_of(input: &[u8], frame: Frame, i: usize) -> MaybeCount
+    requires { ⌜ Placed (now input) frame ⌝ }
+    ensures { λ r. ⌜ countOf r ≡ countGiven (getD (wordsIn (now (input .entry)) frame) i 0) ⌝ }
 {
-    count_given(word_of(input, f.at, f.words, i))
+    count_given(word_of(input, frame.at, frame.words, i))
 }
 
 // The setup but for its vectors.
-fn options_of(input: &[u8], f: Frame) -> Options
-    requires { ⌜ Placed (now input) f ⌝ }
-    ensures { λ r. ⌜ OptionsIn (wordsIn (now (input .entry)) f) r ⌝ }
+fn options_of(input: &[u8], frame: Frame) -> Options
+    requires { ⌜ Placed (now input) frame ⌝ }
+    ensures { λ r. ⌜ OptionsIn (wordsIn (now (input .entry)) frame) r ⌝ }
 {
-    let h = shape_in(word_of(input, f.at, f.words, 0));
-    let maxcor = h.maxcor;
-    let scheme = h.scheme;
+    let first = first_word_in(word_of(input, frame.at, frame.words, 0));
+    let maxcor = first.maxcor;
+    let scheme = first.scheme;
     Options {
-        bounded: h.bounded,
-        maxiter: count_of(input, f, 1),
-        maxfev: count_of(input, f, 2),
-        tol: float_of(input, f, 3),
-        ftol: float_of(input, f, 4),
-        gtol: float_of(input, f, 5),
+        bounded: first.bounded,
+        maxiter: count_of(input, frame, 1),
+        maxfev: count_of(input, frame, 2),
+        tol: float_of(input, frame, 3),
+        ftol: float_of(input, frame, 4),
+        gtol: float_of(input, frame, 5),
         maxcor: maxcor,
-        eps: float_of(input, f, 6),
+        eps: float_of(input, frame, 6),
         scheme: scheme,
     }
 }
@@ -356,38 +356,43 @@ fn floats_at(input: &[u8], at: usize, count: usize) -> [f64; 768]
     requires { ⌜ (at + 8 * count ≤ length (now input)) × (count ≤ 768) ⌝ }
     ensures { λ r. ⌜ r ≡ floatsOf (wordsOf count (drop at (now (input .entry)))) ⌝ }
 {
-    let mut v = zeros();
+    let mut floats = zeros();
     let mut i = 0;
     while i < count {
-        v[i] = float::word_to_float(word_at(input, at + 8 * i));
+        floats[i] = float::word_to_float(word_at(input, at + 8 * i));
         i += 1;
     }
-    v
+    floats
 }
 
 // The vectors of the setup: the start, and with a box the lower and the upper bounds behind it; then zeros.
-pub fn vectors(input: &[u8], f: Frame) -> [f64; 768]
-    requires { ⌜ (f .at + 8 * f .words ≤ length (now input)) × (7 ≤ f .setup) × (f .setup ≤ f .words) × (f .setup ≤ 775) ⌝ }
-    ensures { λ r. ⌜ r ≡ floatsOf (take (f .setup - 7) (drop 7 (wordsIn (now (input .entry)) f))) ⌝ }
+pub fn vectors(input: &[u8], frame: Frame) -> [f64; 768]
+    requires { ⌜ (frame .at + 8 * frame .words ≤ length (now input)) × (7 ≤ frame .setup) × (frame .setup ≤ frame .words) × (frame .setup ≤ 775) ⌝ }
+    ensures { λ r. ⌜ r ≡ floatsOf (take (frame .setup - 7) (drop 7 (wordsIn (now (input .entry)) frame))) ⌝ }
 {
-    floats_at(input, f.at + 56, f.setup - 7)
+    floats_at(input, frame.at + 56, frame.setup - 7)
 }
 
 // The setup's rows of the table, by options and three vectors of n words one behind the other.
-fn check_parts(o: Options, v: &[f64], n: usize) -> Checked
-    requires { ⌜ 3 * n ≤ length (now v) ⌝ }
-    ensures { λ r. ⌜ checkOf r ≡ validate (setupFrom o (now (v .entry)) n) ⌝ }
+fn check_parts(options: Options, floats: &[f64], n: usize) -> Checked
+    requires { ⌜ 3 * n ≤ length (now floats) ⌝ }
+    ensures { λ r. ⌜ checkOf r ≡ validate (setupFrom options (now (floats .entry)) n) ⌝ }
 {
-    problem::validate(o, &v[0..n], &v[n..2 * n], &v[2 * n..3 * n])
+    problem::validate(
+        options,
+        &floats[0..n],
+        &floats[n..2 * n],
+        &floats[2 * n..3 * n],
+    )
 }
 
 // The setup's rows of the table.
-fn check_rows(input: &[u8], f: Frame, o: Options) -> Checked
-    requires { ⌜ Placed (now input) f × (f .setup ≤ f .words) × OptionsIn (wordsIn (now input) f) o ⌝ }
-    ensures { λ r. ⌜ checkOf r ≡ validate (setupIn (wordsIn (now (input .entry)) f)) ⌝ }
+fn check_rows(input: &[u8], frame: Frame, options: Options) -> Checked
+    requires { ⌜ Placed (now input) frame × (frame .setup ≤ frame .words) × OptionsIn (wordsIn (now input) frame) options ⌝ }
+    ensures { λ r. ⌜ checkOf r ≡ validate (setupIn (wordsIn (now (input .entry)) frame)) ⌝ }
 {
-    let v = vectors(input, f);
-    check_parts(o, &v, f.n)
+    let floats = vectors(input, frame);
+    check_parts(options, &floats, frame.n)
 }
 
 fn refused(number: usize, first: usize) -> Parsed
@@ -401,55 +406,55 @@ fn refused(number: usize, first: usize) -> Parsed
 }
 
 // A record whose sums and form are right: the setup's rows, then the area.
-fn check_setup(input: &[u8], f: Frame, area: usize) -> Parsed
-    requires { ⌜ Formed (now input) f ⌝ }
-    ensures { λ r. ⌜ Parsing (now (input .entry)) area r ⌝ }
+fn check_setup(input: &[u8], frame: Frame, available: usize) -> Parsed
+    requires { ⌜ Formed (now input) frame ⌝ }
+    ensures { λ r. ⌜ Parsing (now (input .entry)) available r ⌝ }
 {
-    let o = options_of(input, f);
-    let rows = check_rows(input, f, o);
-    if let Checked::Refused(c) = rows {
-        return Parsed::Refused(c);
+    let options = options_of(input, frame);
+    let rows = check_rows(input, frame, options);
+    if let Checked::Refused(refusal) = rows {
+        return Parsed::Refused(refusal);
     }
-    let needed = area::words(f.n, problem::places(o));
-    if area < needed {
+    let needed = area::words(frame.n, problem::places(options));
+    if available < needed {
         return refused(AREA_SHORT, needed);
     }
-    Parsed::Setup(o, f)
+    Parsed::Setup(options, frame)
 }
 
-// The checks of a record ahead of its entries, for a working area of `area` words: of any bytes, the first refusal, or the setup and
+// The checks of a record ahead of its entries, for a working area of `available` words: of any bytes, the first refusal, or the setup and
 // where it stands.
-pub fn check(input: &[u8], area: usize) -> Parsed
-    ensures { λ r. ⌜ Parsing (now (input .entry)) area r ⌝ }
+pub fn check(input: &[u8], available: usize) -> Parsed
+    ensures { λ r. ⌜ Parsing (now (input .entry)) available r ⌝ }
 {
     if !is_framed(input) {
         return refused(MALFORMED, 0);
     }
-    let f = frame_of(input);
-    if !sums_agree(input, f) {
+    let frame = frame_of(input);
+    if !sums_agree(input, frame) {
         return refused(SUMS_DIFFER, 0);
     }
-    if is_malformed(input, f) {
+    if is_malformed(input, frame) {
         return refused(MALFORMED, 0);
     }
-    check_setup(input, f, area)
+    check_setup(input, frame, available)
 }
 
 // ---- writing
 
-fn count_word(k: MaybeCount) -> u64
-    ensures { λ r. ⌜ r ≡ orElse (countOf k) 0 ⌝ }
+fn count_word(maybe: MaybeCount) -> u64
+    ensures { λ r. ⌜ r ≡ orElse (countOf maybe) 0 ⌝ }
 {
-    match k {
+    match maybe {
         MaybeCount::Given(count) => count as u64,
         MaybeCount::Absent => 0,
     }
 }
 
-fn float_word(v: MaybeFloat) -> u64
-    ensures { λ r. ⌜ r ≡ optionalFloat (floatOf v) ⌝ }
+fn float_word(maybe: MaybeFloat) -> u64
+    ensures { λ r. ⌜ r ≡ optionalFloat (floatOf maybe) ⌝ }
 {
-    match v {
+    match maybe {
         MaybeFloat::Given(x) => float::float_to_word(x),
         MaybeFloat::Absent => ABSENT,
     }
@@ -471,31 +476,31 @@ fn box_flag(bounded: bool) -> u64
 }
 
 // Word 0 of a setup of n coordinates.
-fn shape_word(o: Options, n: usize) -> u64
-    requires { ⌜ (n ≤ 255) × (orElse (countOf (o .maxcor)) 0 ≤ 255) ⌝ }
-    ensures { λ r. ⌜ r ≡ shapeOf o n ⌝ }
+fn first_word(options: Options, n: usize) -> u64
+    requires { ⌜ (n ≤ 255) × (orElse (countOf (options .maxcor)) 0 ≤ 255) ⌝ }
+    ensures { λ r. ⌜ r ≡ firstWord options n ⌝ }
 {
-    let maxcor = o.maxcor;
-    let scheme = o.scheme;
-    let flags = box_flag(o.bounded) + scheme_flag(scheme);
+    let maxcor = options.maxcor;
+    let scheme = options.scheme;
+    let flags = box_flag(options.bounded) + scheme_flag(scheme);
     let size = n as u64;
     let pairs = count_word(maxcor);
     size + 256 * pairs + 65536 * flags
 }
 
 // Word i of the seven ahead of the vectors.
-fn head_word(o: Options, n: usize, i: usize) -> u64
-    requires { ⌜ (n ≤ 255) × (orElse (countOf (o .maxcor)) 0 ≤ 255) × (i < 7) ⌝ }
-    ensures { λ r. ⌜ r ≡ getD (headWords o n) i 0 ⌝ }
+fn leading_word(options: Options, n: usize, i: usize) -> u64
+    requires { ⌜ (n ≤ 255) × (orElse (countOf (options .maxcor)) 0 ≤ 255) × (i < 7) ⌝ }
+    ensures { λ r. ⌜ r ≡ getD (leadingWords options n) i 0 ⌝ }
 {
-    let maxiter = o.maxiter;
-    let maxfev = o.maxfev;
-    let tol = o.tol;
-    let ftol = o.ftol;
-    let gtol = o.gtol;
-    let eps = o.eps;
+    let maxiter = options.maxiter;
+    let maxfev = options.maxfev;
+    let tol = options.tol;
+    let ftol = options.ftol;
+    let gtol = options.gtol;
+    let eps = options.eps;
     if i == 0 {
-        return shape_word(o, n);
+        return first_word(options, n);
     }
     if i == 1 {
         return count_word(maxiter);
@@ -515,26 +520,26 @@ fn head_word(o: Options, n: usize, i: usize) -> u64
     float_word(eps)
 }
 
-// Word k of the bounds, lower before upper.
-fn bound_word(lower: &[f64], upper: &[f64], k: usize) -> u64
-    requires { ⌜ k < length (now lower) + length (now upper) ⌝ }
-    ensures { λ r. ⌜ r ≡ getD (map toWord (now (lower .entry)) ++ map toWord (now (upper .entry))) k 0 ⌝ }
+// Word i of the bounds, lower before upper.
+fn bound_word(lower: &[f64], upper: &[f64], i: usize) -> u64
+    requires { ⌜ i < length (now lower) + length (now upper) ⌝ }
+    ensures { λ r. ⌜ r ≡ getD (map toWord (now (lower .entry)) ++ map toWord (now (upper .entry))) i 0 ⌝ }
 {
     let n = lower.len();
-    if k < n {
-        return float::float_to_word(lower[k]);
+    if i < n {
+        return float::float_to_word(lower[i]);
     }
-    float::float_to_word(upper[k - n])
+    float::float_to_word(upper[i - n])
 }
 
 // Word i of the setup.
-fn setup_word(o: Options, x0: &[f64], lower: &[f64], upper: &[f64], i: usize) -> u64
-    requires { ⌜ Savable o (now x0) (now lower) (now upper) × (i < setupSize (o .bounded) (length (now x0))) ⌝ }
-    ensures { λ r. ⌜ r ≡ getD (setupWords (setupOf o (now (x0 .entry)) (now (lower .entry)) (now (upper .entry)))) i 0 ⌝ }
+fn setup_word(options: Options, x0: &[f64], lower: &[f64], upper: &[f64], i: usize) -> u64
+    requires { ⌜ Savable options (now x0) (now lower) (now upper) × (i < setupSize (options .bounded) (length (now x0))) ⌝ }
+    ensures { λ r. ⌜ r ≡ getD (setupWords (setupOf options (now (x0 .entry)) (now (lower .entry)) (now (upper .entry)))) i 0 ⌝ }
 {
     let n = x0.len();
     if i < 7 {
-        return head_word(o, n, i);
+        return leading_word(options, n, i);
     }
     if i - 7 < n {
         return float::float_to_word(x0[i - 7]);
@@ -543,64 +548,80 @@ fn setup_word(o: Options, x0: &[f64], lower: &[f64], upper: &[f64], i: usize) ->
 }
 
 // Word i of the setup and the log.
-fn saved_word(o: Options, x0: &[f64], lower: &[f64], upper: &[f64], log: &[u64], i: usize) -> u64
-    requires { ⌜ Savable o (now x0) (now lower) (now upper) × (i < setupSize (o .bounded) (length (now x0)) + length (now log)) ⌝ }
-    ensures { λ r. ⌜ r ≡ getD (setupWords (setupOf o (now (x0 .entry)) (now (lower .entry)) (now (upper .entry))) ++ now (log .entry)) i 0 ⌝ }
+fn saved_word(
+    options: Options,
+    x0: &[f64],
+    lower: &[f64],
+    upper: &[f64],
+    log: &[u64],
+    i: usize,
+) -> u64
+    requires { ⌜ Savable options (now x0) (now lower) (now upper) × (i < setupSize (options .bounded) (length (now x0)) + length (now log)) ⌝ }
+    ensures { λ r. ⌜ r ≡ getD (setupWords (setupOf options (now (x0 .entry)) (now (lower .entry)) (now (upper .entry))) ++ now (log .entry)) i 0 ⌝ }
 {
-    let size = setup_words(o, x0.len());
+    let size = setup_words(options, x0.len());
     if i < size {
-        return setup_word(o, x0, lower, upper, i);
+        return setup_word(options, x0, lower, upper, i);
     }
     log[i - size]
 }
 
 // The setup and the log from the first byte on, and their sums.
 fn put_words(
-    o: Options,
+    options: Options,
     x0: &[f64],
     lower: &[f64],
     upper: &[f64],
     log: &[u64],
     out: &mut [u8],
 ) -> Sums
-    requires { ⌜ Savable o (now x0) (now lower) (now upper) × (8 * (setupSize (o .bounded) (length (now x0)) + length (now log)) ≤ length (now out)) ⌝ }
-    ensures { λ r. ⌜ Summed (savedWords o (now (x0 .entry)) (now (lower .entry)) (now (upper .entry)) (now (log .entry))) (now (out .entry)) r
+    requires { ⌜ Savable options (now x0) (now lower) (now upper)
+        × (8 * (setupSize (options .bounded) (length (now x0)) + length (now log)) ≤ length (now out)) ⌝ }
+    ensures { λ r. ⌜ Summed (savedWords options (now (x0 .entry)) (now (lower .entry)) (now (upper .entry)) (now (log .entry))) (now (out .entry)) r
         (now (out .exit)) ⌝ }
 {
-    let count = setup_words(o, x0.len()) + log.len();
-    let mut t = Sums {
+    let count = setup_words(options, x0.len()) + log.len();
+    let mut sums = Sums {
         plain: 0,
         running: 0,
     };
     let mut i = 0;
     while i < count {
-        let w = saved_word(o, x0, lower, upper, log, i);
-        put_word(out, 8 * i, w);
-        t = added(t, w);
+        let word = saved_word(options, x0, lower, upper, log, i);
+        put_word(out, 8 * i, word);
+        sums = added(sums, word);
         i += 1;
     }
-    t
+    sums
 }
 
 // The trailer, behind `count` words.
-fn put_trailer(out: &mut [u8], t: Sums, count: usize)
+fn put_trailer(out: &mut [u8], sums: Sums, count: usize)
     requires { ⌜ 8 * count + 32 ≤ length (now out) ⌝ }
-    ensures { λ _. ⌜ now (out .exit) ≡ take (8 * count) (now (out .entry)) ++ bytes (trailerOf t count) ++ drop (8 * count + 32) (now (out .entry)) ⌝ }
+    ensures { λ _. ⌜ now (out .exit) ≡ take (8 * count) (now (out .entry)) ++ bytes (trailerOf sums count) ++ drop (8 * count + 32) (now (out .entry)) ⌝ }
 {
     let at = 8 * count;
-    put_word(out, at, t.plain);
-    put_word(out, at + 8, t.running);
+    put_word(out, at, sums.plain);
+    put_word(out, at + 8, sums.running);
     put_word(out, at + 16, VERSION);
     put_word(out, at + 24, count as u64);
 }
 
 // The record of a setup and a log, from the first byte of `out` on; what is behind it stays.
-pub fn write(o: Options, x0: &[f64], lower: &[f64], upper: &[f64], log: &[u64], out: &mut [u8])
-    requires { ⌜ Savable o (now x0) (now lower) (now upper) × (8 * (setupSize (o .bounded) (length (now x0)) + length (now log) + 4) ≤ length (now out)) ⌝ }
+pub fn write(
+    options: Options,
+    x0: &[f64],
+    lower: &[f64],
+    upper: &[f64],
+    log: &[u64],
+    out: &mut [u8],
+)
+    requires { ⌜ Savable options (now x0) (now lower) (now upper)
+        × (8 * (setupSize (options .bounded) (length (now x0)) + length (now log) + 4) ≤ length (now out)) ⌝ }
     ensures { λ _. ⌜ now (out .exit)
-        ≡ overwritten (bytes (savedRecord o (now (x0 .entry)) (now (lower .entry)) (now (upper .entry)) (now (log .entry)))) (now (out .entry)) ⌝ }
+        ≡ overwritten (bytes (savedRecord options (now (x0 .entry)) (now (lower .entry)) (now (upper .entry)) (now (log .entry)))) (now (out .entry)) ⌝ }
 {
-    let t = put_words(o, x0, lower, upper, log, out);
-    let count = setup_words(o, x0.len()) + log.len();
-    put_trailer(out, t, count);
+    let sums = put_words(options, x0, lower, upper, log, out);
+    let count = setup_words(options, x0.len()) + log.len();
+    put_trailer(out, sums, count);
 }

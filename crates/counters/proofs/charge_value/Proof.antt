@@ -10,7 +10,8 @@ use Rattle.counters.proofs.charge_value.Tie as tie
 add-t4 : tie.Need-add-t4
 add-t4 c =
     let a = c .before .before .before .args in
-    let h : a .k .nfev < a .l .maxfev = ltb-true (a .k .nfev) (a .l .maxfev) (sym (c .before .before .value-left .ensures) ∙ c .before .if1 .taken) in
+    let left = sym (c .before .before .value-left .ensures) ∙ c .before .if1 .taken in
+    let h : a .counters .nfev < a .limits .maxfev = ltb-true (a .counters .nfev) (a .limits .maxfev) left in
     omega arith
 
 returns : tie.Need-returns

@@ -8,10 +8,10 @@ use Rattle.float.proofs.word_to_float.Statement.{statement}
 use Rattle.float.proofs.word_to_float.Tie as tie
 
 returns : tie.Need-returns
-returns c = rw (nan-of-word (c .before .args .w) (omega arith)) (unfold div ofBits in refl)
+returns c = rw (nan-of-word (c .before .args .word) (omega arith)) (unfold div ofBits in refl)
 
 float-from-bits-result : tie.Need-float-from-bits-result
-float-from-bits-result c = not-nan-of-word (c .before .args .w) (omega arith)
+float-from-bits-result c = not-nan-of-word (c .before .args .word) (omega arith)
 
 returns-2 : tie.Need-returns-2
 returns-2 c = search needs

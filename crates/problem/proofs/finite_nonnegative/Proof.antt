@@ -5,15 +5,15 @@ use Rattle.problem.proofs.finite_nonnegative.Statement.{statement}
 use Rattle.problem.proofs.finite_nonnegative.Tie as tie
 
 returns-2 : tie.Need-returns-2
-returns-2 c = simp (c .refused .ensures, c .before .before .before .before .v .given .1, ← c .before .before .is-finite .ensures, c .before .if1 .taken)
+returns-2 c = simp (c .refused .ensures, c .before .before .before .before .maybe .given .1, ← c .before .before .is-finite .ensures, c .before .if1 .taken)
 
 returns-3 : tie.Need-returns-3
 returns-3 c =
     let f = c .before .before .before in
-    simp (c .refused2 .ensures, f .before .before .v .given .1, ← f .is-finite .ensures, c .before .before .if1 .left, ← zero-is, c .before .if2 .taken)
+    simp (c .refused2 .ensures, f .before .before .maybe .given .1, ← f .is-finite .ensures, c .before .before .if1 .left, ← zero-is, c .before .if2 .taken)
 
 returns-4 : tie.Need-returns-4
-returns-4 c = simp (c .before .before .before .before .v .given .1, ← c .before .before .is-finite .ensures, c .before .if1 .left, ← zero-is, c .if2 .left)
+returns-4 c = simp (c .before .before .before .before .maybe .given .1, ← c .before .before .is-finite .ensures, c .before .if1 .left, ← zero-is, c .if2 .left)
 
 pub finite-nonnegative-spec : {M : Type 1} → statement M
 finite-nonnegative-spec =

@@ -9,13 +9,13 @@ use Rattle.record.proofs.bound_word.Tie as tie
 returns : tie.Need-returns
 returns c =
     let a = c .before .before .before .before .before .args in
-    c .float-to-word .ensures ∙ bound-first (now (a .lower)) (now (a .upper)) (a .k) _ (c .before .before .if1 .taken)
+    c .float-to-word .ensures ∙ bound-first (now (a .lower)) (now (a .upper)) (a .i) _ (c .before .before .if1 .taken)
 
 returns-2 : tie.Need-returns-2
 returns-2 c =
     let s = c .before .before .before .before .before in
     let a = s .args in
-    c .float-to-word2 .ensures ∙ bound-second (now (a .lower)) (now (a .upper)) (a .k) _ (c .before .before .if1 .left) (s .pre)
+    c .float-to-word2 .ensures ∙ bound-second (now (a .lower)) (now (a .upper)) (a .i) _ (c .before .before .if1 .left) (s .pre)
 
 pub bound-word-spec : {M : Type 1} → statement M
 bound-word-spec =

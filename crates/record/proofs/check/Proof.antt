@@ -12,7 +12,7 @@ returns : tie.Need-returns
 returns c =
     let at = c .before .before .before .before in
     subst (Parsing _ _) (sym (c .refused .ensures))
-    (unframed (now (at .args .input)) (at .args .area) (sym (c .before .before .is-framed .ensures) ∙ not-true _ (c .before .if1 .taken)))
+    (unframed (now (at .args .input)) (at .args .available) (sym (c .before .before .is-framed .ensures) ∙ not-true _ (c .before .if1 .taken)))
 
 frame-of-requires : tie.Need-frame-of-requires
 frame-of-requires c κs = sym (c .before .is-framed .ensures) ∙ not-false _ (c .if1 .left)
@@ -27,7 +27,7 @@ returns-2 c =
     let at = f .before .before .before .before in
     let framed = sym (f .before .before .is-framed .ensures) ∙ not-false _ (f .before .if1 .left) in
     subst (Parsing _ _) (sym (c .refused2 .ensures))
-    (sums-refused (now (at .args .input)) _ framed (f .frame-of .ensures) (at .args .area)
+    (sums-refused (now (at .args .input)) _ framed (f .frame-of .ensures) (at .args .available)
     (sym (c .before .before .sums-agree .ensures) ∙ not-true _ (c .before .if2 .taken)))
 
 is-malformed-requires : tie.Need-is-malformed-requires
@@ -43,7 +43,7 @@ returns-3 c =
     let framed = sym (k .before .is-framed .ensures) ∙ not-false _ (k .if1 .left) in
     let sums = sym (t .before .sums-agree .ensures) ∙ not-false _ (t .if2 .left) in
     subst (Parsing _ _) (sym (c .refused3 .ensures))
-    (form-refused (now (at .args .input)) _ framed (t .before .before .frame-of .ensures) (at .args .area) sums
+    (form-refused (now (at .args .input)) _ framed (t .before .before .frame-of .ensures) (at .args .available) sums
     (sym (c .before .before .is-malformed .ensures) ∙ c .before .if3 .taken))
 
 check-setup-requires : tie.Need-check-setup-requires

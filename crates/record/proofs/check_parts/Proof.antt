@@ -7,7 +7,7 @@ use Rattle.record.proofs.check_parts.Statement.{statement}
 use Rattle.record.proofs.check_parts.Tie as tie
 
 returns : tie.Need-returns
-returns c = let a = c .before .before .before .before .before .args in c .validate .ensures ∙ parts-same (a .o) (now (a .v)) (a .n)
+returns c = let a = c .before .before .before .before .before .args in c .validate .ensures ∙ parts-same (a .options) (now (a .floats)) (a .n)
 
 pub check-parts-spec : {M : Type 1} → statement M
 check-parts-spec =

@@ -18,8 +18,8 @@ returns : tie.Need-returns
 returns c =
     let at = c .before .before .before .before in
     c .check-parts .ensures
-    ∙ ap validate (ap (λ v. setupFrom (at .args .o) v (at .args .f .n)) (c .before .before .vectors .ensures)
-    ∙ laid-setup (now (at .args .input)) (at .args .f) (at .pre .0) (at .pre .1) (at .args .o) (at .pre .2))
+    ∙ ap validate (ap (λ v. setupFrom (at .args .options) v (at .args .frame .n)) (c .before .before .vectors .ensures)
+    ∙ laid-setup (now (at .args .input)) (at .args .frame) (at .pre .0) (at .pre .1) (at .args .options) (at .pre .2))
 
 pub check-rows-spec : {M : Type 1} → statement M
 check-rows-spec = tie.close (tie.spec vectors-requires (λ c. search needs) (λ c κs. search needs) returns)

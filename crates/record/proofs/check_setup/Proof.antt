@@ -19,7 +19,8 @@ returns : tie.Need-returns
 returns c =
     let r = c .before .before .before in
     let at = r .before .before .before in
-    rows-refused (now (at .args .input)) (at .args .f) (at .pre) (at .args .area) _ (sym (ap checkOf (c .before .rows .given .1)) ∙ r .check-rows .ensures)
+    rows-refused (now (at .args .input)) (at .args .frame) (at .pre) (at .args .available) _
+    (sym (ap checkOf (c .before .rows .given .1)) ∙ r .check-rows .ensures)
 
 words-requires : tie.Need-words-requires
 words-requires c κs =

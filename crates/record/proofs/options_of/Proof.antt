@@ -7,18 +7,18 @@ use Rattle.record.proofs.options_of.Tie as tie
 
 returns : tie.Need-returns
 returns c =
-    let first = c .before .before .before .before .before .before .before .word-of .ensures in
-    let shape = c .before .before .before .before .before .before .shape-in .ensures in
+    let word = c .before .before .before .before .before .before .before .word-of .ensures in
+    let first = c .before .before .before .before .before .before .first-word-in .ensures in
     record {
-      bounded = shape .bounded ∙ ap hasBox first;
+      bounded = first .bounded ∙ ap hasBox word;
       maxiter = c .before .before .before .before .before .count-of .ensures;
       maxfev = c .before .before .before .before .count-of2 .ensures;
       tol = c .before .before .before .float-of .ensures;
       ftol = c .before .before .float-of2 .ensures;
       gtol = c .before .float-of3 .ensures;
-      maxcor = shape .maxcor ∙ ap (λ w. countGiven (maxcorIn w)) first;
+      maxcor = first .maxcor ∙ ap (λ w. countGiven (maxcorIn w)) word;
       eps = c .float-of4 .ensures;
-      scheme = shape .scheme ∙ ap schemeIn first;
+      scheme = first .scheme ∙ ap schemeIn word;
     }
 
 pub options-of-spec : {M : Type 1} → statement M

@@ -15,7 +15,7 @@ returns c =
     let at = u .before .before .before in
     let a = at .args in
     c .before .before .put-word4 .ensures
-    ∙ trailer-put (now (a .out)) _ _ _ (8 * a .count) (a .t .plain) (a .t .running) 1 (a .count) (at .pre) (u .put-word .ensures) (w .put-word2 .ensures)
+    ∙ trailer-put (now (a .out)) _ _ _ (8 * a .count) (a .sums .plain) (a .sums .running) 1 (a .count) (at .pre) (u .put-word .ensures) (w .put-word2 .ensures)
     (p .put-word3 .ensures)
 
 pub put-trailer-spec : {M : Type 1} → statement M

@@ -26,9 +26,9 @@ loop-holds : tie.Need-loop-holds Inv-loop μ-loop
 loop-holds c =
     let at = c .before .before .before .before .before .before in
     let a = at .args in
-    writing-none (savedWords (a .o) (now (a .x0)) (now (a .lower)) (now (a .upper)) (now (a .log))) (now (a .out)) _
+    writing-none (savedWords (a .options) (now (a .x0)) (now (a .lower)) (now (a .upper)) (now (a .log))) (now (a .out)) _
     (ap (λ (k : ℕ). k + length (now (a .log))) (c .setup-words .ensures)
-    ∙ sym (saved-size (a .o) (now (a .x0)) (now (a .lower)) (now (a .upper)) (at .pre .0) (now (a .log))))
+    ∙ sym (saved-size (a .options) (now (a .x0)) (now (a .lower)) (now (a .upper)) (at .pre .0) (now (a .log))))
     (omega (arith, at .pre .1, c .setup-words .ensures))
 
 saved-word-requires : tie.Need-saved-word-requires Inv-loop μ-loop

@@ -12,14 +12,14 @@ returns c =
     let at = c .before .before .before .before .before .before .before in
     let a = at .args in
     c .setup-word .ensures
-    ∙ saved-first (a .o) (now (a .x0)) (now (a .lower)) (now (a .upper)) (at .pre .0) (now (a .log)) (a .i)
+    ∙ saved-first (a .options) (now (a .x0)) (now (a .lower)) (now (a .upper)) (at .pre .0) (now (a .log)) (a .i)
     (omega (arith, c .before .if1 .taken, c .before .before .setup-words .ensures))
 
 returns-2 : tie.Need-returns-2
 returns-2 c =
     let at = c .before .before .before .before .before .before .before in
     let a = at .args in
-    saved-second (a .o) (now (a .x0)) (now (a .lower)) (now (a .upper)) (at .pre .0) (now (a .log)) (a .i) _ (c .before .before .setup-words .ensures)
+    saved-second (a .options) (now (a .x0)) (now (a .lower)) (now (a .upper)) (at .pre .0) (now (a .log)) (a .i) _ (c .before .before .setup-words .ensures)
     (c .before .if1 .left)
 
 pub saved-word-spec : {M : Type 1} → statement M

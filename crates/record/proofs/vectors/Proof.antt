@@ -10,7 +10,7 @@ use Rattle.record.proofs.vectors.Tie as tie
 returns : tie.Need-returns
 returns c =
     let at = c .before .before .before .before in
-    c .floats-at .ensures ∙ ap floatsOf (words-behind (now (at .args .input)) (at .args .f .at) _ _ (at .pre .1) (at .pre .2))
+    c .floats-at .ensures ∙ ap floatsOf (words-behind (now (at .args .input)) (at .args .frame .at) _ _ (at .pre .1) (at .pre .2))
 
 pub vectors-spec : {M : Type 1} → statement M
 vectors-spec = tie.close (tie.spec (λ c. search needs) (λ c. search needs) (λ c κs. search needs) returns)

@@ -18,8 +18,8 @@ returns c =
     let a = at .args in
     let log = now (a .log) in
     let size =
-    ap (λ (k : ℕ). k + length log) (s .setup-words .ensures) ∙ sym (saved-size (a .o) (now (a .x0)) (now (a .lower)) (now (a .upper)) (at .pre .0) log) in
-    record-put (savedWords (a .o) (now (a .x0)) (now (a .lower)) (now (a .upper)) log) (now (a .out)) _ _ _ _ (p .put-words .ensures) size
+    ap (λ (k : ℕ). k + length log) (s .setup-words .ensures) ∙ sym (saved-size (a .options) (now (a .x0)) (now (a .lower)) (now (a .upper)) (at .pre .0) log) in
+    record-put (savedWords (a .options) (now (a .x0)) (now (a .lower)) (now (a .upper)) log) (now (a .out)) _ _ _ _ (p .put-words .ensures) size
     (omega (arith, at .pre .1, s .setup-words .ensures)) (c .before .before .put-trailer .ensures)
 
 pub write-spec : {M : Type 1} → statement M
