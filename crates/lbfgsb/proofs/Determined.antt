@@ -164,25 +164,28 @@ module _ (w v : Words) (e : machineIn w ≡ machineIn v) where
   same-phase : w .state .phase ≡ v .state .phase
   same-phase = apart phaseOf phaseBack phase-back (w .state .phase) (v .state .phase) (ap (λ (m : M.Machine). m .phase) e)
 
-  same-bracketed : w .state .trials .bracketed ≡ v .state .trials .bracketed
+  same-bracketed : w .state .search .trials .bracketed ≡ v .state .search .trials .bracketed
   same-bracketed =
-      sym (high-present (w .state .trials .bracketed) (w .state .search .high))
+      sym (high-present (w .state .search .trials .bracketed) (w .state .search .step .high))
       ∙ ap (λ (m : M.Machine). present (m .search .high)) e
-      ∙ high-present (v .state .trials .bracketed) (v .state .search .high)
+      ∙ high-present (v .state .search .trials .bracketed) (v .state .search .step .high)
 
-  same-trials : w .state .trials ≡ v .state .trials
+  same-trials : w .state .search .trials ≡ v .state .search .trials
   same-trials = λ i. record { count = e i .search .trials; face = e i .search .face; bracketed = same-bracketed i }
 
-  same-high : Settled (w .state .search) → Settled (v .state .search) → w .state .search .high ≡ v .state .search .high
+  same-high : Settled (w .state .search) → Settled (v .state .search) → w .state .search .step .high ≡ v .state .search .step .high
   same-high h k =
-      sym (high-back (w .state .trials .bracketed) (w .state .search .high) h)
+      sym (high-back (w .state .search .trials .bracketed) (w .state .search .step .high) h)
       ∙ ap (λ (m : M.Machine). orZero (m .search .high)) e
-      ∙ high-back (v .state .trials .bracketed) (v .state .search .high) k
+      ∙ high-back (v .state .search .trials .bracketed) (v .state .search .step .high) k
 
   same-search : Settled (w .state .search) → Settled (v .state .search) → w .state .search ≡ v .state .search
   same-search h k =
       let high = same-high h k in
-      λ i. record { alpha = e i .search .alpha; low = e i .search .low; high = high i; slope0 = e i .search .slope0; amax = e i .search .amax }
+      λ i. record {
+        step = record { alpha = e i .search .alpha; low = e i .search .low; high = high i; slope0 = e i .search .slope0; amax = e i .search .amax };
+        trials = same-trials i;
+      }
 
   -- a pair in use
   same-pair : (k : ℕ) → k < w .state .shape .pairs
@@ -255,7 +258,6 @@ module _ {w v : Words} {b : Book} (h : Stands w b) (k : Stands v b) where
       let counters = same-counters w v e in
       let phase = same-phase w v e in
       let search = same-search w v e (h .settled) (k .settled) in
-      let trials = same-trials w v e in
       let extra = same-extra in
       λ i. record {
         shape = shape i;
@@ -264,11 +266,10 @@ module _ {w v : Words} {b : Book} (h : Stands w b) (k : Stands v b) where
         counters = counters i;
         phase = phase i;
         search = search i;
-        trials = trials i;
         value = e i .held .f;
-        trial = e i .trial .f;
-        right = e i .rightValue;
-        before = e i .before;
+        «trial_value» = e i .trial .f;
+        «right_value» = e i .rightValue;
+        «value_before» = e i .before;
         theta = e i .compact .theta;
         extra = extra i;
       }

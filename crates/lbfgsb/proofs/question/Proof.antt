@@ -14,14 +14,14 @@ returns-2 : tie.Need-returns-2
 returns-2 c l =
     question-ended _ _ l _
     (sym (c .before .before .before .is-held .ensures) ∙ not-false _ (c .before .before .if1 .left))
-    (sym (c .before .kind-of .ensures) ∙ c .if2 .taken)
+    (sym (c .before .question-kind .ensures) ∙ c .if2 .taken)
 
 returns-3 : tie.Need-returns-3
 returns-3 c l =
     let held = c .before .before .before .before in
     question-short _ _ l _ _
     (sym (held .before .is-held .ensures) ∙ not-false _ (held .if1 .left))
-    (λ e. c .before .before .if2 .left (c .before .before .before .kind-of .ensures ∙ e))
+    (λ e. c .before .before .if2 .left (c .before .before .before .question-kind .ensures ∙ e))
     (c .before .if3 .taken)
     (c .refusal .ensures)
 
@@ -38,7 +38,7 @@ returns-4 c l =
     (sym (held .before .is-held .ensures) ∙ not-false _ (held .if1 .left))
     (c .before .before .before .before .before .if2 .left)
     (c .before .before .before .before .if3 .left)
-    (c .before .before .before .before .before .before .kind-of .ensures)
+    (c .before .before .before .before .before .before .question-kind .ensures)
     (c .before .before .put-question .ensures)
 
 same-length : tie.Need-same-length
