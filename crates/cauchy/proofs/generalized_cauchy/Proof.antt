@@ -53,8 +53,10 @@ returns-2 c =
 loop-again : tie.Need-loop-again Inv-loop μ-loop
 loop-again c =
     let a = c .before .before .before .before .before in
-    let l = a .before .before .before in
-    (walking-more (l .loop .inv .0) (a .before .segment-from .ensures) _ (c .before .before .segment2 .given .1) (c .if1 .left), a .area2 .given ∙ l .loop .inv .1)
+    let l = a .before .before .before in (
+      walking-more (l .loop .inv .0) (a .before .segment-from .ensures) _ (c .before .before .segment2 .given .1) (c .if1 .left),
+      a .area2 .given ∙ l .loop .inv .1,
+    )
 
 pub generalized-cauchy-spec : {M : Type 1} → statement M
 generalized-cauchy-spec =

@@ -9,7 +9,8 @@ use Rattle.solve.proofs.row_sum.Statement.{statement}
 use Rattle.solve.proofs.row_sum.Tie as tie
 
 abbrev Inv-loop : tie.InvT-loop
-Inv-loop matrix x n i columns sum₀ past₀ sum past = Looped (n - (i + 1)) (λ d s. plus s (times (entry matrix i (i + 1 + d)) (word x (i + 1 + d)))) negZero sum past
+Inv-loop matrix x n i columns sum₀ past₀ sum past =
+    Looped (n - (i + 1)) (λ d s. plus s (times (entry matrix i (i + 1 + d)) (word x (i + 1 + d)))) negZero sum past
 
 abbrev μ-loop : tie.MeasureT-loop
 μ-loop matrix x n i columns sum₀ past₀ sum past = columns - past
