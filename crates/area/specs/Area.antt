@@ -8,6 +8,7 @@ use lib.Dec.{eqb}
 use lib.ListN.{take, drop, set}
 use lib.Ieee.{Float}
 use Rattle.definition.specs.Vector.{tab, word, foldTo, difference}
+use Rattle.definition.specs.Problem.{Bounds}
 
 -- ---- vectors by their numbers
 
@@ -132,6 +133,10 @@ pub record ScratchOnly (a b : Vecs) : Type 0 where
 pub record Saved (a b : Vecs) : Type 0 where
   pub x0 : b X0 ≡ a X0
   pub free : FreeKept a b
+
+-- the bounds
+abbrev pub boundsOf : Vecs → Bounds
+boundsOf v = record { lower = v Lower; upper = v Upper }
 
 -- ---- loops over the index
 

@@ -66,57 +66,57 @@ pub fn words(n: usize, m: usize) -> usize
     n * (4 * m + 16) + 4 * m * m + 4 * m
 }
 
-// Word i of vector p.
-pub fn get(area: &[f64], n: usize, p: usize, i: usize) -> f64
-    requires { ⌜ (p * n + n ≤ length (now area)) × (i < n) ⌝ }
-    ensures { λ r. ⌜ r ≡ wordsAt (now (area .entry)) n i p ⌝ }
+// Word i of the vector.
+pub fn get(area: &[f64], n: usize, vector: usize, i: usize) -> f64
+    requires { ⌜ (vector * n + n ≤ length (now area)) × (i < n) ⌝ }
+    ensures { λ r. ⌜ r ≡ wordsAt (now (area .entry)) n i vector ⌝ }
 {
-    area[p * n + i]
+    area[vector * n + i]
 }
 
-pub fn put(area: &mut [f64], n: usize, p: usize, i: usize, v: f64)
-    requires { ⌜ (p * n + n ≤ length (now area)) × (i < n) ⌝ }
-    ensures { λ _. ⌜ view (now (area .exit)) n ≡ putWord (view (now (area .entry)) n) p i v ⌝ }
+pub fn put(area: &mut [f64], n: usize, vector: usize, i: usize, value: f64)
+    requires { ⌜ (vector * n + n ≤ length (now area)) × (i < n) ⌝ }
+    ensures { λ _. ⌜ view (now (area .exit)) n ≡ putWord (view (now (area .entry)) n) vector i value ⌝ }
 {
-    area[p * n + i] = v;
+    area[vector * n + i] = value;
 }
 
-// Vector p becomes vector q.
-pub fn copy(area: &mut [f64], n: usize, p: usize, q: usize)
-    requires { ⌜ (p * n + n ≤ length (now area)) × (q * n + n ≤ length (now area)) ⌝ }
-    ensures { λ _. ⌜ view (now (area .exit)) n ≡ copyOf p q (view (now (area .entry)) n) ⌝ }
+// Vector `to` becomes vector `from`.
+pub fn copy(area: &mut [f64], n: usize, to: usize, from: usize)
+    requires { ⌜ (to * n + n ≤ length (now area)) × (from * n + n ≤ length (now area)) ⌝ }
+    ensures { λ _. ⌜ view (now (area .exit)) n ≡ copyOf to from (view (now (area .entry)) n) ⌝ }
 {
-    let to = p * n;
-    let from = q * n;
+    let to_start = to * n;
+    let from_start = from * n;
     let mut i = 0;
     while i < n {
-        area[to + i] = area[from + i];
+        area[to_start + i] = area[from_start + i];
         i += 1;
     }
 }
 
-// Each word of vector p becomes v.
-pub fn fill(area: &mut [f64], n: usize, p: usize, v: f64)
-    requires { ⌜ p * n + n ≤ length (now area) ⌝ }
-    ensures { λ _. ⌜ view (now (area .exit)) n ≡ fillOf n p v (view (now (area .entry)) n) ⌝ }
+// Each word of the vector becomes the value.
+pub fn fill(area: &mut [f64], n: usize, vector: usize, value: f64)
+    requires { ⌜ vector * n + n ≤ length (now area) ⌝ }
+    ensures { λ _. ⌜ view (now (area .exit)) n ≡ fillOf n vector value (view (now (area .entry)) n) ⌝ }
 {
-    let to = p * n;
+    let start = vector * n;
     let mut i = 0;
     while i < n {
-        area[to + i] = v;
+        area[start + i] = value;
         i += 1;
     }
 }
 
-// Vector p becomes the slice v.
-pub fn store(area: &mut [f64], n: usize, p: usize, v: &[f64])
-    requires { ⌜ (p * n + n ≤ length (now area)) × (length (now v) ≡ n) ⌝ }
-    ensures { λ _. ⌜ view (now (area .exit)) n ≡ upd (view (now (area .entry)) n) p (now (v .entry)) ⌝ }
+// The vector becomes the slice of values.
+pub fn store(area: &mut [f64], n: usize, vector: usize, values: &[f64])
+    requires { ⌜ (vector * n + n ≤ length (now area)) × (length (now values) ≡ n) ⌝ }
+    ensures { λ _. ⌜ view (now (area .exit)) n ≡ upd (view (now (area .entry)) n) vector (now (values .entry)) ⌝ }
 {
-    let to = p * n;
+    let start = vector * n;
     let mut i = 0;
     while i < n {
-        area[to + i] = v[i];
+        area[start + i] = values[i];
         i += 1;
     }
 }
@@ -133,32 +133,32 @@ pub fn store_gradient(area: &mut [f64], n: usize, words: &[u64], from: usize)
     }
 }
 
-// Vector p becomes vector q less vector r.
-pub fn difference(area: &mut [f64], n: usize, p: usize, q: usize, r: usize)
-    requires { ⌜ (p * n + n ≤ length (now area)) × (q * n + n ≤ length (now area)) × (r * n + n ≤ length (now area)) ⌝ }
-    ensures { λ _. ⌜ view (now (area .exit)) n ≡ differenceOf n p q r (view (now (area .entry)) n) ⌝ }
+// Vector `to` becomes vector `left` less vector `right`.
+pub fn difference(area: &mut [f64], n: usize, to: usize, left: usize, right: usize)
+    requires { ⌜ (to * n + n ≤ length (now area)) × (left * n + n ≤ length (now area)) × (right * n + n ≤ length (now area)) ⌝ }
+    ensures { λ _. ⌜ view (now (area .exit)) n ≡ differenceOf n to left right (view (now (area .entry)) n) ⌝ }
 {
-    let to = p * n;
-    let a = q * n;
-    let b = r * n;
+    let to_start = to * n;
+    let left_start = left * n;
+    let right_start = right * n;
     let mut i = 0;
     while i < n {
-        area[to + i] = area[a + i] - area[b + i];
+        area[to_start + i] = area[left_start + i] - area[right_start + i];
         i += 1;
     }
 }
 
-// The product of vectors p and q, from the left and from -0.0.
-pub fn dot(area: &[f64], n: usize, p: usize, q: usize) -> f64
-    requires { ⌜ (p * n + n ≤ length (now area)) × (q * n + n ≤ length (now area)) ⌝ }
-    ensures { λ r. ⌜ r ≡ dotOf n (view (now (area .entry)) n p) (view (now (area .entry)) n q) ⌝ }
+// The product of vectors `left` and `right`, from the left and from -0.0.
+pub fn dot(area: &[f64], n: usize, left: usize, right: usize) -> f64
+    requires { ⌜ (left * n + n ≤ length (now area)) × (right * n + n ≤ length (now area)) ⌝ }
+    ensures { λ r. ⌜ r ≡ dotOf n (view (now (area .entry)) n left) (view (now (area .entry)) n right) ⌝ }
 {
-    let a = p * n;
-    let b = q * n;
+    let left_start = left * n;
+    let right_start = right * n;
     let mut sum = float::NEG_ZERO;
     let mut i = 0;
     while i < n {
-        sum = sum + area[a + i] * area[b + i];
+        sum = sum + area[left_start + i] * area[right_start + i];
         i += 1;
     }
     sum
@@ -170,16 +170,16 @@ fn both_finite(ok: bool, x: f64) -> bool
     if ok { float::is_finite(x) } else { false }
 }
 
-// Whether every word of vector p is finite.
-pub fn all_finite(area: &[f64], n: usize, p: usize) -> bool
-    requires { ⌜ p * n + n ≤ length (now area) ⌝ }
-    ensures { λ r. ⌜ r ≡ allFinite n (view (now (area .entry)) n p) ⌝ }
+// Whether every word of the vector is finite.
+pub fn all_finite(area: &[f64], n: usize, vector: usize) -> bool
+    requires { ⌜ vector * n + n ≤ length (now area) ⌝ }
+    ensures { λ r. ⌜ r ≡ allFinite n (view (now (area .entry)) n vector) ⌝ }
 {
-    let at = p * n;
+    let start = vector * n;
     let mut ok = true;
     let mut i = 0;
     while i < n {
-        ok = both_finite(ok, area[at + i]);
+        ok = both_finite(ok, area[start + i]);
         i += 1;
     }
     ok

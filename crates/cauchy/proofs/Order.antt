@@ -16,11 +16,11 @@ use Rattle.definition.specs.Number.{totalKey, totalLe}
 use Rattle.definition.specs.Vector.{foldTo, word}
 use Rattle.definition.specs.Problem.{Bounds, mostCoordinates}
 use Rattle.definition.specs.Geometry.{Break, noBreak, inserted, breakTime, breaksOf}
-use Rattle.area.specs.Area.{Vecs, view, wordsAt, X, G}
+use Rattle.area.specs.Area.{Vecs, boundsOf, view, wordsAt, X, G}
 use Rattle.area.proofs.Laws.{word-view}
 use Rattle.cauchy.specs.declared.BreakTime.{BreakTime}
 use Rattle.cauchy.specs.declared.Breaks.{Breaks}
-use Rattle.cauchy.specs.State.{boundsOf, breakOf, noBreakTime, sift, breakList, Rising, Ordered, Inserted, Kept, Found, breakTimeIn}
+use Rattle.cauchy.specs.State.{breakOf, noBreakTime, sift, breakList, Rising, Ordered, Inserted, Kept, Found, breakTimeIn}
 
 -- by a test's two values
 by-test : (P : Bool → Type 0) (t : Bool) → (t ≡ true → P true) → (t ≡ false → P false) → P t

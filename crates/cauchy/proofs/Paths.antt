@@ -13,12 +13,13 @@ use Rattle.definition.specs.Vector.{word, allFinite}
 use Rattle.definition.specs.Problem.{Bounds}
 use Rattle.definition.specs.Geometry as D
 use Rattle.definition.specs.Geometry.{Break, noBreak, pointOnPath, stopped, stopAll, reached, passed}
-use Rattle.area.specs.Area.{Vecs, view, wordsAt, rowwise, fillOf, putWord, given, ScratchOnly, X, Lower, Upper, Velocity, Displacement, Active, Cauchy}
+use Rattle.area.specs.Area.{Vecs, boundsOf, view, wordsAt, rowwise, fillOf, putWord, given, ScratchOnly}
+use Rattle.area.specs.Area.{X, Lower, Upper, Velocity, Displacement, Active, Cauchy}
 use Rattle.area.proofs.Laws.{scratch-refl, scratch-trans, scratch-upd}
 use Rattle.cauchy.specs.declared.BreakTime.{BreakTime}
 use Rattle.cauchy.specs.declared.Breaks.{Breaks}
 use Rattle.cauchy.specs.declared.Path.{Path}
-use Rattle.cauchy.specs.State.{boundsOf, noBreakTime, breakOf, breakList, Listed, velocityIn, boundIn}
+use Rattle.cauchy.specs.State.{noBreakTime, breakOf, breakList, Listed, velocityIn, boundIn}
 use Rattle.cauchy.specs.State.{pointIn, pathOf, travelledOf, Travels, Begins, PathPoint}
 use Rattle.cauchy.proofs.Order.{words-view, breaks-length, break-get}
 

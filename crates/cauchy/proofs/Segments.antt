@@ -16,7 +16,7 @@ use Rattle.definition.specs.Problem.{Bounds}
 use Rattle.definition.specs.Compact as C
 use Rattle.definition.specs.Geometry as D
 use Rattle.definition.specs.Geometry.{Break, noBreak, pointOnPath, travelled, passed, along, bySlope, segment, walk, still, generalizedCauchy}
-use Rattle.area.specs.Area.{Vecs, upd, rowwise, given, firstFree, ScratchOnly, X, G, Velocity, Displacement, Cauchy, ProductD, ProductZ}
+use Rattle.area.specs.Area.{Vecs, boundsOf, upd, rowwise, given, firstFree, ScratchOnly, X, G, Velocity, Displacement, Cauchy, ProductD, ProductZ}
 use Rattle.area.proofs.Laws.{scratch-refl, scratch-trans, scratch-upd}
 use Rattle.compact.specs.declared.Shape.{Shape}
 use Rattle.compact.specs.State.{compactOf, Multiplied}
@@ -25,7 +25,7 @@ use Rattle.cauchy.specs.declared.Breaks.{Breaks}
 use Rattle.cauchy.specs.declared.Path.{Path}
 use Rattle.cauchy.specs.declared.Segment.{Segment}
 use Rattle.cauchy.specs.declared.Segment.the-variants as S
-use Rattle.cauchy.specs.State.{boundsOf, breakList, Found, pathOf, travelledOf, Travels, Begins, Points, PathPoint, segmentOf, Segments}
+use Rattle.cauchy.specs.State.{breakList, Found, pathOf, travelledOf, Travels, Begins, Points, PathPoint, segmentOf, Segments}
 use Rattle.cauchy.proofs.Paths.{bounds-kept}
 
 -- ---- with a slope below zero and a curvature above

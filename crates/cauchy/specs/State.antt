@@ -9,17 +9,14 @@ use lib.Ieee as Ieee
 use lib.Ieee.{Float, nan}
 use lib.Ieee.Scale.{finite}
 use Rattle.definition.specs.Number.{totalKey, totalLe, plus, minus, times, over, clamp, zero64, infinity}
-use Rattle.definition.specs.Problem.{Bounds, mostCoordinates}
+use Rattle.definition.specs.Problem.{mostCoordinates}
 use Rattle.definition.specs.Geometry as D
-use Rattle.area.specs.Area.{Vecs, rowwise, given, ScratchOnly, X, G, Lower, Upper, Velocity, Displacement, Active, Cauchy}
+use Rattle.area.specs.Area.{Vecs, boundsOf, rowwise, given, ScratchOnly, X, G, Lower, Upper, Velocity, Displacement, Active, Cauchy}
 use Rattle.cauchy.specs.declared.BreakTime.{BreakTime}
 use Rattle.cauchy.specs.declared.Breaks.{Breaks}
 use Rattle.cauchy.specs.declared.Path.{Path}
 use Rattle.cauchy.specs.declared.Segment.{Segment}
 use Rattle.cauchy.specs.declared.Segment.the-variants as S
-
-abbrev pub boundsOf : Vecs → Bounds
-boundsOf v = record { lower = v Lower; upper = v Upper }
 
 -- ---- break times
 
@@ -47,14 +44,14 @@ Rising m [] = Unit
 Rising m (b ∷ bs) = (m ≤ totalKey (b .time)) × Rising (totalKey (b .time)) bs
 
 -- every coordinate is below n
-abbrev pub Within : ℕ → Breaks → Type 0
-Within n b = (k : ℕ) → k < b .count → getD (b .list) k noBreakTime .coordinate < n
+abbrev pub BreaksInRange : ℕ → Breaks → Type 0
+BreaksInRange n b = (k : ℕ) → k < b .count → getD (b .list) k noBreakTime .coordinate < n
 
 -- breaks of n coordinates
 pub record Listed (n : ℕ) (b : Breaks) : Type 0 where
   pub long : length (b .list) ≡ mostCoordinates
   pub few : b .count ≤ mostCoordinates
-  pub within : Within n b
+  pub within : BreaksInRange n b
 
 -- breaks in order, with room for one more
 pub record Ordered (b : Breaks) : Type 0 where

@@ -9,9 +9,9 @@ ghost use Rattle.definition.specs.Vector.{dot as dotOf};
 ghost use Rattle.definition.specs.Problem.{mostCoordinates};
 ghost use Rattle.definition.specs.Geometry.{noBreak, stopped, stopAll, passed, generalizedCauchy};
 ghost use Rattle.definition.specs.Geometry.{along as alongOf, bySlope, still as stillOf, segment as segmentOf};
-ghost use Rattle.area.specs.Area.{view, wordsAt, rowwise, firstPair, X, G, Velocity, ProductZ, Cauchy};
+ghost use Rattle.area.specs.Area.{view, wordsAt, boundsOf, rowwise, firstPair, X, G, Velocity, ProductZ, Cauchy};
 ghost use Rattle.compact.specs.State.{Sound, Prepared, compactOf};
-ghost use Rattle.cauchy.specs.State.{boundsOf, noBreakTime, sift, breakList, Listed, Ordered, Inserted, Kept, Found};
+ghost use Rattle.cauchy.specs.State.{noBreakTime, sift, breakList, Listed, Ordered, Inserted, Kept, Found};
 ghost use Rattle.cauchy.specs.State.{movesUpIn, movesDownIn, velocityIn, breakTimeIn, boundIn, pointIn, pathOf};
 ghost use Rattle.cauchy.specs.State.{travelledOf, Travels, Begins, Points, PathPoint, Segments};
 
@@ -93,51 +93,51 @@ fn break_time(area: &[f64], n: usize, i: usize) -> f64
     float::infinity()
 }
 
-// Whether p stands before t, or level with it.
-fn not_later(p: BreakTime, t: BreakTime) -> bool
-    ensures { λ r. ⌜ r ≡ totalLe (p .time) (t .time) ⌝ }
+// Whether the other break stands before the entry, or level with it.
+fn not_later(other: BreakTime, entry: BreakTime) -> bool
+    ensures { λ r. ⌜ r ≡ totalLe (other .time) (entry .time) ⌝ }
 {
-    float::total_le(p.time, t.time)
+    float::total_le(other.time, entry.time)
 }
 
-// A stable insertion in a lent list: the first n breaks are in order, and t goes behind those that are not later.
-fn insert_in(b: &mut [BreakTime], n: usize, t: BreakTime)
-    requires { ⌜ n < length (now b) ⌝ }
-    ensures { λ _. ⌜ now (b .exit) ≡ sift n (now (b .entry)) t ⌝ }
+// A stable insertion in a lent list: the first `count` breaks are in order, and the entry goes behind those that are not later.
+fn insert_in(list: &mut [BreakTime], count: usize, entry: BreakTime)
+    requires { ⌜ count < length (now list) ⌝ }
+    ensures { λ _. ⌜ now (list .exit) ≡ sift count (now (list .entry)) entry ⌝ }
 {
-    let mut k = n;
-    while 0 < k {
-        let j = k - 1;
-        let p = b[j];
-        if not_later(p, t) {
+    let mut place = count;
+    while 0 < place {
+        let j = place - 1;
+        let other = list[j];
+        if not_later(other, entry) {
             break;
         }
-        b[k] = p;
-        k = j;
+        list[place] = other;
+        place = j;
     }
-    b[k] = t;
+    list[place] = entry;
 }
 
 // The break of a number from a lent list.
-fn break_at(b: &[BreakTime], i: usize) -> BreakTime
-    requires { ⌜ i < length (now b) ⌝ }
-    ensures { λ r. ⌜ r ≡ getD (now (b .entry)) i noBreakTime ⌝ }
+fn break_at(list: &[BreakTime], i: usize) -> BreakTime
+    requires { ⌜ i < length (now list) ⌝ }
+    ensures { λ r. ⌜ r ≡ getD (now (list .entry)) i noBreakTime ⌝ }
 {
-    b[i]
+    list[i]
 }
 
 // The insertion by value: it makes the reference, so that its callers need none.
 fn inserted(
     list: [BreakTime; problem::MOST_COORDINATES],
-    n: usize,
-    t: BreakTime,
+    count: usize,
+    entry: BreakTime,
 ) -> [BreakTime; problem::MOST_COORDINATES]
-    requires { ⌜ n < mostCoordinates ⌝ }
-    ensures { λ r. ⌜ r ≡ sift n list t ⌝ }
+    requires { ⌜ count < mostCoordinates ⌝ }
+    ensures { λ r. ⌜ r ≡ sift count list entry ⌝ }
 {
-    let mut b = list;
-    insert_in(&mut b, n, t);
-    b
+    let mut longer = list;
+    insert_in(&mut longer, count, entry);
+    longer
 }
 
 // The reading by value.
@@ -145,38 +145,38 @@ fn entry(list: [BreakTime; problem::MOST_COORDINATES], i: usize) -> BreakTime
     requires { ⌜ i < mostCoordinates ⌝ }
     ensures { λ r. ⌜ r ≡ getD list i noBreakTime ⌝ }
 {
-    let b = list;
-    break_at(&b, i)
+    let lent = list;
+    break_at(&lent, i)
 }
 
 // One break more, in its place.
-fn with_break(b: Breaks, t: BreakTime) -> Breaks
-    requires { ⌜ Ordered b ⌝ }
-    ensures { λ r. ⌜ Inserted b t r ⌝ }
+fn with_break(breaks: Breaks, entry: BreakTime) -> Breaks
+    requires { ⌜ Ordered breaks ⌝ }
+    ensures { λ r. ⌜ Inserted breaks entry r ⌝ }
 {
-    let list = b.list;
-    let r = inserted(list, b.count, t);
+    let list = breaks.list;
+    let longer = inserted(list, breaks.count, entry);
     Breaks {
-        list: r,
-        count: b.count + 1,
+        list: longer,
+        count: breaks.count + 1,
     }
 }
 
 // A break time is kept where it is finite.
-fn with_time(b: Breaks, t: f64, i: usize) -> Breaks
-    requires { ⌜ Ordered b ⌝ }
-    ensures { λ r. ⌜ Kept b t i r ⌝ }
+fn with_time(breaks: Breaks, time: f64, i: usize) -> Breaks
+    requires { ⌜ Ordered breaks ⌝ }
+    ensures { λ r. ⌜ Kept breaks time i r ⌝ }
 {
-    if float::is_finite(t) {
+    if float::is_finite(time) {
         return with_break(
-            b,
+            breaks,
             BreakTime {
-                time: t,
+                time: time,
                 coordinate: i,
             },
         );
     }
-    b
+    breaks
 }
 
 // A place for each coordinate that there may be, of which none is used.
@@ -198,24 +198,24 @@ fn find_breaks(area: &[f64], n: usize) -> Breaks
     requires { ⌜ (firstPair * n ≤ length (now area)) × (n ≤ mostCoordinates) ⌝ }
     ensures { λ r. ⌜ Found n (view (now (area .entry)) n) r ⌝ }
 {
-    let mut b = no_breaks();
+    let mut breaks = no_breaks();
     let mut i = 0;
     while i < n {
-        b = with_time(b, break_time(area, n, i), i);
+        breaks = with_time(breaks, break_time(area, n, i), i);
         i += 1;
     }
-    b
+    breaks
 }
 
 // The time of the next break: infinity past the last.
-fn next_time(b: Breaks, event: usize) -> f64
-    requires { ⌜ (length (b .list) ≡ mostCoordinates) × (b .count ≤ mostCoordinates) ⌝ }
-    ensures { λ r. ⌜ r ≡ getD (breakList b) event noBreak .time ⌝ }
+fn next_time(breaks: Breaks, event: usize) -> f64
+    requires { ⌜ (length (breaks .list) ≡ mostCoordinates) × (breaks .count ≤ mostCoordinates) ⌝ }
+    ensures { λ r. ⌜ r ≡ getD (breakList breaks) event noBreak .time ⌝ }
 {
-    if event < b.count {
-        let list = b.list;
-        let k = entry(list, event);
-        return k.time;
+    if event < breaks.count {
+        let list = breaks.list;
+        let entry = entry(list, event);
+        return entry.time;
     }
     float::infinity()
 }
@@ -234,10 +234,10 @@ fn set_velocity(area: &mut [f64], n: usize)
     requires { ⌜ firstPair * n ≤ length (now area) ⌝ }
     ensures { λ _. ⌜ view (now (area .exit)) n ≡ rowwise n Velocity (λ i w. velocityIn w) (view (now (area .entry)) n) ⌝ }
 {
-    let to = area::VELOCITY * n;
+    let start = area::VELOCITY * n;
     let mut i = 0;
     while i < n {
-        area[to + i] = velocity_at(area, n, i);
+        area[start + i] = velocity_at(area, n, i);
         i += 1;
     }
 }
@@ -256,16 +256,16 @@ fn begin_path(area: &mut [f64], n: usize) -> Path
     }
 }
 
-// The displacement after a time t more.
-fn travel(area: &mut [f64], n: usize, t: f64)
+// The displacement after that much time more.
+fn travel(area: &mut [f64], n: usize, time: f64)
     requires { ⌜ firstPair * n ≤ length (now area) ⌝ }
-    ensures { λ _. ⌜ view (now (area .exit)) n ≡ travelledOf n t (view (now (area .entry)) n) ⌝ }
+    ensures { λ _. ⌜ view (now (area .exit)) n ≡ travelledOf n time (view (now (area .entry)) n) ⌝ }
 {
-    let to = area::DISPLACEMENT * n;
-    let from = area::VELOCITY * n;
+    let to_start = area::DISPLACEMENT * n;
+    let from_start = area::VELOCITY * n;
     let mut i = 0;
     while i < n {
-        area[to + i] = area[to + i] + t * area[from + i];
+        area[to_start + i] = area[to_start + i] + time * area[from_start + i];
         i += 1;
     }
 }
@@ -282,9 +282,9 @@ fn bound_met(area: &[f64], n: usize, i: usize) -> f64
 }
 
 // Coordinate i stops at its bound.
-fn stop(area: &mut [f64], n: usize, i: usize, p: Path) -> Path
-    requires { ⌜ (firstPair * n ≤ length (now area)) × (i < n) × (p .event < mostCoordinates) ⌝ }
-    ensures { λ r. ⌜ (let v = view (now (area .entry)) n in Travels (stopped (boundsOf v) (v X) i) p v r (view (now (area .exit)) n)) ⌝ }
+fn stop(area: &mut [f64], n: usize, i: usize, path: Path) -> Path
+    requires { ⌜ (firstPair * n ≤ length (now area)) × (i < n) × (path .event < mostCoordinates) ⌝ }
+    ensures { λ r. ⌜ (let v = view (now (area .entry)) n in Travels (stopped (boundsOf v) (v X) i) path v r (view (now (area .exit)) n)) ⌝ }
 {
     let bound = bound_met(area, n, i);
     let x = area::get(area, n, area::X, i);
@@ -292,40 +292,41 @@ fn stop(area: &mut [f64], n: usize, i: usize, p: Path) -> Path
     area::put(area, n, area::DISPLACEMENT, i, bound - x);
     area::put(area, n, area::ACTIVE, i, bound);
     Path {
-        previous: p.previous,
-        event: p.event + 1,
+        previous: path.previous,
+        event: path.event + 1,
     }
 }
 
-// Every break at the time t stops its coordinate.
-fn stop_all(area: &mut [f64], n: usize, b: Breaks, t: f64, p: Path) -> Path
-    requires { ⌜ (firstPair * n ≤ length (now area)) × Listed n b ⌝ }
+// Every break at the time stops its coordinate.
+fn stop_all(area: &mut [f64], n: usize, breaks: Breaks, time: f64, path: Path) -> Path
+    requires { ⌜ (firstPair * n ≤ length (now area)) × Listed n breaks ⌝ }
     ensures { λ r. ⌜ (let v = view (now (area .entry)) n in
-        Travels (stopAll (b .count - p .event) (boundsOf v) (v X) (breakList b) t) p v r (view (now (area .exit)) n)) ⌝ }
+        Travels (stopAll (breaks .count - path .event) (boundsOf v) (v X) (breakList breaks) time) path v r (view (now (area .exit)) n)) ⌝ }
 {
-    let list = b.list;
-    let mut q = p;
-    while q.event < b.count {
-        let k = entry(list, q.event);
-        if k.time == t {
-            q = stop(area, n, k.coordinate, q);
+    let list = breaks.list;
+    let mut reached = path;
+    while reached.event < breaks.count {
+        let entry = entry(list, reached.event);
+        if entry.time == time {
+            reached = stop(area, n, entry.coordinate, reached);
         } else {
-            return q;
+            return reached;
         }
     }
-    q
+    reached
 }
 
-// Past the segment that ends at t.
-fn pass(area: &mut [f64], n: usize, b: Breaks, t: f64, p: Path) -> Path
-    requires { ⌜ (firstPair * n ≤ length (now area)) × Listed n b ⌝ }
-    ensures { λ r. ⌜ (let v = view (now (area .entry)) n in Travels (passed n (boundsOf v) (v X) (breakList b) t) p v r (view (now (area .exit)) n)) ⌝ }
+// Past the segment that ends at the time.
+fn pass(area: &mut [f64], n: usize, breaks: Breaks, time: f64, path: Path) -> Path
+    requires { ⌜ (firstPair * n ≤ length (now area)) × Listed n breaks ⌝ }
+    ensures { λ r. ⌜ (let v = view (now (area .entry)) n in
+        Travels (passed n (boundsOf v) (v X) (breakList breaks) time) path v r (view (now (area .exit)) n)) ⌝ }
 {
-    travel(area, n, t - p.previous);
-    let q = stop_all(area, n, b, t, p);
+    travel(area, n, time - path.previous);
+    let reached = stop_all(area, n, breaks, time, path);
     Path {
-        previous: t,
-        event: q.event,
+        previous: time,
+        event: reached.event,
     }
 }
 
@@ -347,10 +348,10 @@ fn put_point(area: &mut [f64], n: usize)
     requires { ⌜ firstPair * n ≤ length (now area) ⌝ }
     ensures { λ _. ⌜ view (now (area .exit)) n ≡ rowwise n Cauchy (λ i w. pointIn w) (view (now (area .entry)) n) ⌝ }
 {
-    let to = area::CAUCHY * n;
+    let start = area::CAUCHY * n;
     let mut i = 0;
     while i < n {
-        area[to + i] = point_at(area, n, i);
+        area[start + i] = point_at(area, n, i);
         i += 1;
     }
 }
@@ -378,37 +379,51 @@ fn still(area: &[f64], n: usize) -> bool
     requires { ⌜ firstPair * n ≤ length (now area) ⌝ }
     ensures { λ r. ⌜ r ≡ stillOf n (view (now (area .entry)) n Velocity) ⌝ }
 {
-    let at = area::VELOCITY * n;
+    let start = area::VELOCITY * n;
     let mut ok = true;
     let mut i = 0;
     while i < n {
-        ok = both_zero(ok, area[at + i]);
+        ok = both_zero(ok, area[start + i]);
         i += 1;
     }
     ok
 }
 
 // With a slope below zero and a curvature above: a minimum inside the segment, or on to its end.
-fn along(area: &mut [f64], n: usize, b: Breaks, p: Path, next: f64, minimizer: f64) -> Segment
-    requires { ⌜ (firstPair * n ≤ length (now area)) × Listed n b ⌝ }
+fn along(
+    area: &mut [f64],
+    n: usize,
+    breaks: Breaks,
+    path: Path,
+    next: f64,
+    minimizer: f64,
+) -> Segment
+    requires { ⌜ (firstPair * n ≤ length (now area)) × Listed n breaks ⌝ }
     ensures { λ r. ⌜ (let v = view (now (area .entry)) n in
-        Segments (alongOf n (boundsOf v) (v X) (breakList b) (pathOf p v) next minimizer) v r (view (now (area .exit)) n)) ⌝ }
+        Segments (alongOf n (boundsOf v) (v X) (breakList breaks) (pathOf path v) next minimizer) v r (view (now (area .exit)) n)) ⌝ }
 {
     if !float::is_finite(minimizer) {
         return Segment::Ended(false);
     }
-    if minimizer < next - p.previous {
+    if minimizer < next - path.previous {
         travel(area, n, minimizer);
         return Segment::Ended(point_on_path(area, n));
     }
-    Segment::Onward(pass(area, n, b, next, p))
+    Segment::Onward(pass(area, n, breaks, next, path))
 }
 
 // The curvature must lie above zero; a slope that does not fall ends the path.
-fn by_slope(area: &mut [f64], n: usize, b: Breaks, p: Path, slope: f64, curvature: f64) -> Segment
-    requires { ⌜ (firstPair * n ≤ length (now area)) × Listed n b ⌝ }
+fn by_slope(
+    area: &mut [f64],
+    n: usize,
+    breaks: Breaks,
+    path: Path,
+    slope: f64,
+    curvature: f64,
+) -> Segment
+    requires { ⌜ (firstPair * n ≤ length (now area)) × Listed n breaks ⌝ }
     ensures { λ r. ⌜ (let v = view (now (area .entry)) n in
-        Segments (bySlope n (boundsOf v) (v X) (breakList b) (pathOf p v) slope curvature) v r (view (now (area .exit)) n)) ⌝ }
+        Segments (bySlope n (boundsOf v) (v X) (breakList breaks) (pathOf path v) slope curvature) v r (view (now (area .exit)) n)) ⌝ }
 {
     if !float::is_finite(slope) {
         return Segment::Ended(false);
@@ -420,8 +435,8 @@ fn by_slope(area: &mut [f64], n: usize, b: Breaks, p: Path, slope: f64, curvatur
         if 0.0 <= slope {
             return Segment::Ended(point_on_path(area, n));
         }
-        let next = next_time(b, p.event);
-        return along(area, n, b, p, next, -slope / curvature);
+        let next = next_time(breaks, path.event);
+        return along(area, n, breaks, path, next, -slope / curvature);
     }
     Segment::Ended(false)
 }
@@ -439,25 +454,27 @@ fn slope(area: &[f64], n: usize) -> f64
 // One segment of the path.
 fn segment_from(
     area: &mut [f64],
-    h: compact::Shape,
+    shape: compact::Shape,
     theta: f64,
     found: bool,
     rows: &[[f64; 32]; 32],
     multipliers: &[[f64; 32]; 32],
     order: &[usize; 32],
-    b: Breaks,
-    p: Path,
+    breaks: Breaks,
+    path: Path,
 ) -> Segment
-    requires { ⌜ Sound h (length (now area)) × Prepared h theta found (now rows) (now multipliers) (now order) (view (now area) (h .n)) × Listed (h .n) b ⌝ }
-    ensures { λ r. ⌜ (let v = view (now (area .entry)) (h .n) in
-        Segments (segmentOf (h .n) (boundsOf v) (compactOf h theta v) (v X) (v G) (breakList b) (pathOf p v)) v r (view (now (area .exit)) (h .n))) ⌝ }
+    requires { ⌜ Sound shape (length (now area)) × Prepared shape theta found (now rows) (now multipliers) (now order) (view (now area) (shape .n))
+        × Listed (shape .n) breaks ⌝ }
+    ensures { λ r. ⌜ (let v = view (now (area .entry)) (shape .n) in
+        Segments (segmentOf (shape .n) (boundsOf v) (compactOf shape theta v) (v X) (v G) (breakList breaks) (pathOf path v)) v r
+        (view (now (area .exit)) (shape .n))) ⌝ }
 {
-    if still(area, h.n) {
-        return Segment::Ended(point_on_path(area, h.n));
+    if still(area, shape.n) {
+        return Segment::Ended(point_on_path(area, shape.n));
     }
     if !compact::product(
         area,
-        h,
+        shape,
         theta,
         found,
         rows,
@@ -468,10 +485,10 @@ fn segment_from(
     ) {
         return Segment::Ended(false);
     }
-    let curvature = area::dot(area, h.n, area::VELOCITY, area::PRODUCT_D);
+    let curvature = area::dot(area, shape.n, area::VELOCITY, area::PRODUCT_D);
     if !compact::product(
         area,
-        h,
+        shape,
         theta,
         found,
         rows,
@@ -482,40 +499,50 @@ fn segment_from(
     ) {
         return Segment::Ended(false);
     }
-    let s = slope(area, h.n);
-    by_slope(area, h.n, b, p, s, curvature)
+    let slope = slope(area, shape.n);
+    by_slope(area, shape.n, breaks, path, slope, curvature)
 }
 
 // The Cauchy point in its vector, where there is one: at most n + 1 segments lead on.
 pub fn generalized_cauchy(
     area: &mut [f64],
-    h: compact::Shape,
+    shape: compact::Shape,
     theta: f64,
     found: bool,
     rows: &[[f64; 32]; 32],
     multipliers: &[[f64; 32]; 32],
     order: &[usize; 32],
 ) -> bool
-    requires { ⌜ Sound h (length (now area)) × Prepared h theta found (now rows) (now multipliers) (now order) (view (now area) (h .n))
-        × (h .n ≤ mostCoordinates) ⌝ }
-    ensures { λ r. ⌜ (let v = view (now (area .entry)) (h .n) in
-        Points (generalizedCauchy (h .n) (boundsOf v) (compactOf h theta v) (v X) (v G)) v r (view (now (area .exit)) (h .n))) ⌝ }
+    requires { ⌜ Sound shape (length (now area)) × Prepared shape theta found (now rows) (now multipliers) (now order) (view (now area) (shape .n))
+        × (shape .n ≤ mostCoordinates) ⌝ }
+    ensures { λ r. ⌜ (let v = view (now (area .entry)) (shape .n) in
+        Points (generalizedCauchy (shape .n) (boundsOf v) (compactOf shape theta v) (v X) (v G)) v r (view (now (area .exit)) (shape .n))) ⌝ }
 {
-    let b = find_breaks(area, h.n);
-    let mut p = begin_path(area, h.n);
-    let mut left = h.n + 1;
+    let breaks = find_breaks(area, shape.n);
+    let mut path = begin_path(area, shape.n);
+    let mut remaining = shape.n + 1;
     loop {
-        let s = segment_from(area, h, theta, found, rows, multipliers, order, b, p);
-        match s {
+        let segment = segment_from(
+            area,
+            shape,
+            theta,
+            found,
+            rows,
+            multipliers,
+            order,
+            breaks,
+            path,
+        );
+        match segment {
             Segment::Ended(ok) => {
                 return ok;
             }
-            Segment::Onward(q) => {
-                if left == 0 {
+            Segment::Onward(reached) => {
+                if remaining == 0 {
                     return false;
                 }
-                p = q;
-                left -= 1;
+                path = reached;
+                remaining -= 1;
             }
         }
     }

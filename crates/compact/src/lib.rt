@@ -34,28 +34,28 @@ fn wrapped(m: usize, i: usize) -> usize
     if i < m { i } else { i - m }
 }
 
-// The vector of the place k behind the oldest's: a pair's s, and its y in the next vector.
-fn place_slot(h: Shape, k: usize) -> usize
-    requires { ⌜ (h .oldest < h .m) × (k ≤ h .m) × (h .m ≤ mostPairs) ⌝ }
-    ensures { λ r. ⌜ r ≡ pairSlot h k ⌝ }
+// The vector of a place counted from the oldest's: a pair's s, and its y in the next vector.
+fn place_slot(shape: Shape, place: usize) -> usize
+    requires { ⌜ (shape .oldest < shape .m) × (place ≤ shape .m) × (shape .m ≤ mostPairs) ⌝ }
+    ensures { λ r. ⌜ r ≡ pairSlot shape place ⌝ }
 {
-    area::FIRST_PAIR + 2 * wrapped(h.m, h.oldest + k)
+    area::FIRST_PAIR + 2 * wrapped(shape.m, shape.oldest + place)
 }
 
-// The vector of column k of W, behind the pairs.
-pub fn column_slot(h: Shape, k: usize) -> usize
-    requires { ⌜ (h .m ≤ mostPairs) × (k < 2 * h .m) ⌝ }
-    ensures { λ r. ⌜ r ≡ columnSlot h k ⌝ }
+// The vector of a column of W, behind the pairs.
+pub fn column_slot(shape: Shape, column: usize) -> usize
+    requires { ⌜ (shape .m ≤ mostPairs) × (column < 2 * shape .m) ⌝ }
+    ensures { λ r. ⌜ r ≡ columnSlot shape column ⌝ }
 {
-    area::FIRST_PAIR + 2 * h.m + k
+    area::FIRST_PAIR + 2 * shape.m + column
 }
 
-// Where pair k stands: its s, and its y in the next vector.
-pub fn pair_slot(area: &[f64], h: Shape, k: usize) -> usize
-    requires { ⌜ Sound h (length (now area)) × (k < h .pairs) ⌝ }
-    ensures { λ r. ⌜ Slot h k r (length (now (area .entry))) ⌝ }
+// Where a pair stands: its s, and its y in the next vector.
+pub fn pair_slot(area: &[f64], shape: Shape, pair: usize) -> usize
+    requires { ⌜ Sound shape (length (now area)) × (pair < shape .pairs) ⌝ }
+    ensures { λ r. ⌜ Slot shape pair r (length (now (area .entry))) ⌝ }
 {
-    place_slot(h, k)
+    place_slot(shape, pair)
 }
 
 // ---- update
@@ -81,48 +81,48 @@ fn acceptable(sy: f64, yy: f64) -> bool
 }
 
 // One pair more, or without the oldest where there are m.
-fn pushed(h: Shape) -> Shape
-    requires { ⌜ (h .pairs ≤ h .m) × (h .oldest < h .m) × (h .m ≤ mostPairs) ⌝ }
-    ensures { λ r. ⌜ r ≡ pushedShape h ⌝ }
+fn pushed(shape: Shape) -> Shape
+    requires { ⌜ (shape .pairs ≤ shape .m) × (shape .oldest < shape .m) × (shape .m ≤ mostPairs) ⌝ }
+    ensures { λ r. ⌜ r ≡ pushedShape shape ⌝ }
 {
-    let mut r = h;
-    if h.pairs < h.m {
-        r.pairs = h.pairs + 1;
-        return r;
+    let mut new_shape = shape;
+    if shape.pairs < shape.m {
+        new_shape.pairs = shape.pairs + 1;
+        return new_shape;
     }
-    r.oldest = wrapped(h.m, h.oldest + 1);
-    r
+    new_shape.oldest = wrapped(shape.m, shape.oldest + 1);
+    new_shape
 }
 
 // The pair of the two scratch vectors becomes the newest.
-fn push(area: &mut [f64], h: Shape, old: f64, theta: f64) -> Shape
-    requires { ⌜ Sound h (length (now area)) ⌝ }
-    ensures { λ r. ⌜ Pushed h old theta (view (now (area .entry)) (h .n)) r (view (now (area .exit)) (h .n)) ⌝ }
+fn push(area: &mut [f64], shape: Shape, old: f64, theta: f64) -> Shape
+    requires { ⌜ Sound shape (length (now area)) ⌝ }
+    ensures { λ r. ⌜ Pushed shape old theta (view (now (area .entry)) (shape .n)) r (view (now (area .exit)) (shape .n)) ⌝ }
 {
-    let k = place_slot(h, h.pairs);
-    area::copy(area, h.n, k, area::VELOCITY);
-    area::copy(area, h.n, k + 1, area::DISPLACEMENT);
-    pushed(h)
+    let slot = place_slot(shape, shape.pairs);
+    area::copy(area, shape.n, slot, area::VELOCITY);
+    area::copy(area, shape.n, slot + 1, area::DISPLACEMENT);
+    pushed(shape)
 }
 
 // `update` with the s and y of the two scratch vectors: the old pairs and theta stay unless the new pair is accepted.
-pub fn update(area: &mut [f64], h: Shape, theta: f64) -> Updated
-    requires { ⌜ Sound h (length (now area)) ⌝ }
-    ensures { λ r. ⌜ Rattle.compact.specs.State.Updated h theta (view (now (area .entry)) (h .n)) (r .shape) (r .theta)
-        (view (now (area .exit)) (h .n)) ⌝ }
+pub fn update(area: &mut [f64], shape: Shape, theta: f64) -> Updated
+    requires { ⌜ Sound shape (length (now area)) ⌝ }
+    ensures { λ r. ⌜ Rattle.compact.specs.State.Updated shape theta (view (now (area .entry)) (shape .n)) (r .shape) (r .theta)
+        (view (now (area .exit)) (shape .n)) ⌝ }
 {
-    let sy = area::dot(area, h.n, area::VELOCITY, area::DISPLACEMENT);
-    let yy = area::dot(area, h.n, area::DISPLACEMENT, area::DISPLACEMENT);
+    let sy = area::dot(area, shape.n, area::VELOCITY, area::DISPLACEMENT);
+    let yy = area::dot(area, shape.n, area::DISPLACEMENT, area::DISPLACEMENT);
     if acceptable(sy, yy) {
-        let next = yy / sy;
-        let g = push(area, h, theta, next);
+        let new_theta = yy / sy;
+        let new_shape = push(area, shape, theta, new_theta);
         return Updated {
-            shape: g,
-            theta: next,
+            shape: new_shape,
+            theta: new_theta,
         };
     }
     Updated {
-        shape: h,
+        shape: shape,
         theta: theta,
     }
 }
@@ -130,64 +130,72 @@ pub fn update(area: &mut [f64], h: Shape, theta: f64) -> Updated
 // ---- the block, from the pairs
 
 // The s of pair i times the y of pair j.
-fn s_dot_y(area: &[f64], h: Shape, i: usize, j: usize) -> f64
-    requires { ⌜ Sound h (length (now area)) × (i < h .pairs) × (j < h .pairs) ⌝ }
-    ensures { λ r. ⌜ (let v = view (now (area .entry)) (h .n) in r ≡ dotOf (h .n) (pairOf (pairsOf h v) i .s) (pairOf (pairsOf h v) j .y)) ⌝ }
+fn s_dot_y(area: &[f64], shape: Shape, i: usize, j: usize) -> f64
+    requires { ⌜ Sound shape (length (now area)) × (i < shape .pairs) × (j < shape .pairs) ⌝ }
+    ensures { λ r. ⌜ (let v = view (now (area .entry)) (shape .n) in r ≡ dotOf (shape .n) (pairOf (pairsOf shape v) i .s) (pairOf (pairsOf shape v) j .y)) ⌝ }
 {
-    let p = pair_slot(area, h, i);
-    let q = pair_slot(area, h, j);
-    area::dot(area, h.n, p, q + 1)
+    let left = pair_slot(area, shape, i);
+    let right = pair_slot(area, shape, j);
+    area::dot(area, shape.n, left, right + 1)
 }
 
 // The s of pair i times the s of pair j.
-fn s_dot_s(area: &[f64], h: Shape, i: usize, j: usize) -> f64
-    requires { ⌜ Sound h (length (now area)) × (i < h .pairs) × (j < h .pairs) ⌝ }
-    ensures { λ r. ⌜ (let v = view (now (area .entry)) (h .n) in r ≡ dotOf (h .n) (pairOf (pairsOf h v) i .s) (pairOf (pairsOf h v) j .s)) ⌝ }
+fn s_dot_s(area: &[f64], shape: Shape, i: usize, j: usize) -> f64
+    requires { ⌜ Sound shape (length (now area)) × (i < shape .pairs) × (j < shape .pairs) ⌝ }
+    ensures { λ r. ⌜ (let v = view (now (area .entry)) (shape .n) in r ≡ dotOf (shape .n) (pairOf (pairsOf shape v) i .s) (pairOf (pairsOf shape v) j .s)) ⌝ }
 {
-    let p = pair_slot(area, h, i);
-    let q = pair_slot(area, h, j);
-    area::dot(area, h.n, p, q)
+    let left = pair_slot(area, shape, i);
+    let right = pair_slot(area, shape, j);
+    area::dot(area, shape.n, left, right)
 }
 
 // An entry of -D: -s·y of a pair on the diagonal, and 0 elsewhere.
-fn diagonal(area: &[f64], h: Shape, i: usize, j: usize) -> f64
-    requires { ⌜ Sound h (length (now area)) × (i < h .pairs) × (j < h .pairs) ⌝ }
-    ensures { λ r. ⌜ r ≡ diagonalEntry (h .n) (pairsOf h (view (now (area .entry)) (h .n))) i j ⌝ }
+fn diagonal(area: &[f64], shape: Shape, i: usize, j: usize) -> f64
+    requires { ⌜ Sound shape (length (now area)) × (i < shape .pairs) × (j < shape .pairs) ⌝ }
+    ensures { λ r. ⌜ r ≡ diagonalEntry (shape .n) (pairsOf shape (view (now (area .entry)) (shape .n))) i j ⌝ }
 {
     if i == j {
-        return -s_dot_y(area, h, i, j);
+        return -s_dot_y(area, shape, i, j);
     }
     0.0
 }
 
 // An entry of L: s of pair i times y of pair j below the diagonal, and 0 elsewhere.
-fn lower(area: &[f64], h: Shape, i: usize, j: usize) -> f64
-    requires { ⌜ Sound h (length (now area)) × (i < h .pairs) × (j < h .pairs) ⌝ }
-    ensures { λ r. ⌜ r ≡ lowerEntry (h .n) (pairsOf h (view (now (area .entry)) (h .n))) i j ⌝ }
+fn lower(area: &[f64], shape: Shape, i: usize, j: usize) -> f64
+    requires { ⌜ Sound shape (length (now area)) × (i < shape .pairs) × (j < shape .pairs) ⌝ }
+    ensures { λ r. ⌜ r ≡ lowerEntry (shape .n) (pairsOf shape (view (now (area .entry)) (shape .n))) i j ⌝ }
 {
     if j < i {
-        return s_dot_y(area, h, i, j);
+        return s_dot_y(area, shape, i, j);
     }
     0.0
 }
 
 // Entry i, j of the block [-D, L'; L, theta S'S], by the row's half and the column's. The block is symmetric: below the diagonal
-// the entry is taken from the rows above, which stand in b.
-fn block_entry(area: &[f64], h: Shape, theta: f64, b: &[[f64; 32]; 32], i: usize, j: usize) -> f64
-    requires { ⌜ Sound h (length (now area)) × (i < 2 * h .pairs) × (j < 2 * h .pairs) × (now b ≡ blockTo h theta (view (now area) (h .n)) i) ⌝ }
-    ensures { λ r. ⌜ r ≡ blockEntry (h .n) (compactOf h theta (view (now (area .entry)) (h .n))) i j ⌝ }
+// the entry is taken from the rows above, which stand in the block.
+fn block_entry(
+    area: &[f64],
+    shape: Shape,
+    theta: f64,
+    block: &[[f64; 32]; 32],
+    i: usize,
+    j: usize,
+) -> f64
+    requires { ⌜ Sound shape (length (now area)) × (i < 2 * shape .pairs) × (j < 2 * shape .pairs)
+        × (now block ≡ blockTo shape theta (view (now area) (shape .n)) i) ⌝ }
+    ensures { λ r. ⌜ r ≡ blockEntry (shape .n) (compactOf shape theta (view (now (area .entry)) (shape .n))) i j ⌝ }
 {
     if j < i {
-        return b[j][i];
+        return block[j][i];
     }
-    let m = h.pairs;
-    if i < m {
-        if j < m {
-            return diagonal(area, h, i, j);
+    let pairs = shape.pairs;
+    if i < pairs {
+        if j < pairs {
+            return diagonal(area, shape, i, j);
         }
-        return lower(area, h, j - m, i);
+        return lower(area, shape, j - pairs, i);
     }
-    theta * s_dot_s(area, h, i - m, j - m)
+    theta * s_dot_s(area, shape, i - pairs, j - pairs)
 }
 
 // A row of zeros.
@@ -197,172 +205,190 @@ pub fn zeros() -> [f64; 32]
     [0.0; 32]
 }
 
-// Row i of the block, in an array of 32; the rows above stand in b.
-fn block_row(area: &[f64], h: Shape, theta: f64, b: &[[f64; 32]; 32], i: usize) -> [f64; 32]
-    requires { ⌜ Sound h (length (now area)) × (i < 2 * h .pairs) × (now b ≡ blockTo h theta (view (now area) (h .n)) i) ⌝ }
-    ensures { λ r. ⌜ r ≡ padded zero64 (2 * h .pairs) (blockEntry (h .n) (compactOf h theta (view (now (area .entry)) (h .n))) i) ⌝ }
+// Row i of the block, in an array of 32; the rows above stand in the block.
+fn block_row(area: &[f64], shape: Shape, theta: f64, block: &[[f64; 32]; 32], i: usize) -> [f64; 32]
+    requires { ⌜ Sound shape (length (now area)) × (i < 2 * shape .pairs) × (now block ≡ blockTo shape theta (view (now area) (shape .n)) i) ⌝ }
+    ensures { λ r. ⌜ r ≡ padded zero64 (2 * shape .pairs) (blockEntry (shape .n) (compactOf shape theta (view (now (area .entry)) (shape .n))) i) ⌝ }
 {
-    let size = 2 * h.pairs;
-    let mut r = zeros();
+    let size = 2 * shape.pairs;
+    let mut row = zeros();
     let mut j = 0;
     while j < size {
-        r[j] = block_entry(area, h, theta, b, i, j);
+        row[j] = block_entry(area, shape, theta, block, i, j);
         j += 1;
     }
-    r
+    row
 }
 
 // The block, once for a model.
-pub fn block(area: &[f64], h: Shape, theta: f64) -> [[f64; 32]; 32]
-    requires { ⌜ Sound h (length (now area)) ⌝ }
-    ensures { λ r. ⌜ r ≡ blockOf (h .n) (compactOf h theta (view (now (area .entry)) (h .n))) ⌝ }
+pub fn block(area: &[f64], shape: Shape, theta: f64) -> [[f64; 32]; 32]
+    requires { ⌜ Sound shape (length (now area)) ⌝ }
+    ensures { λ r. ⌜ r ≡ blockOf (shape .n) (compactOf shape theta (view (now (area .entry)) (shape .n))) ⌝ }
 {
-    let size = 2 * h.pairs;
-    let z = zeros();
-    let mut b = [z; 32];
+    let size = 2 * shape.pairs;
+    let zero_row = zeros();
+    let mut block = [zero_row; 32];
     let mut i = 0;
     while i < size {
-        let r = block_row(area, h, theta, &b, i);
-        b[i] = r;
+        let row = block_row(area, shape, theta, &block, i);
+        block[i] = row;
         i += 1;
     }
-    b
+    block
 }
 
 // ---- the columns of W = [Y, theta S], laid out once for a model
 
-// Vector p becomes w times vector q.
-fn scale(area: &mut [f64], n: usize, p: usize, q: usize, w: f64)
-    requires { ⌜ (p * n + n ≤ length (now area)) × (q * n + n ≤ length (now area)) ⌝ }
-    ensures { λ _. ⌜ view (now (area .exit)) n ≡ rowwise n p (λ (i : ℕ) v. times w (v q)) (view (now (area .entry)) n) ⌝ }
+// Vector `to` becomes the factor times vector `from`.
+fn scale(area: &mut [f64], n: usize, to: usize, from: usize, factor: f64)
+    requires { ⌜ (to * n + n ≤ length (now area)) × (from * n + n ≤ length (now area)) ⌝ }
+    ensures { λ _. ⌜ view (now (area .exit)) n ≡ rowwise n to (λ (i : ℕ) v. times factor (v from)) (view (now (area .entry)) n) ⌝ }
 {
-    let to = p * n;
-    let from = q * n;
+    let to_start = to * n;
+    let from_start = from * n;
     let mut i = 0;
     while i < n {
-        area[to + i] = w * area[from + i];
+        area[to_start + i] = factor * area[from_start + i];
         i += 1;
     }
 }
 
-// Column k: the y of a pair, or theta times its s.
-fn lay_column(area: &mut [f64], h: Shape, theta: f64, k: usize)
-    requires { ⌜ Sound h (length (now area)) × (k < 2 * h .pairs) ⌝ }
-    ensures { λ _. ⌜ (let v = view (now (area .entry)) (h .n) in
-        view (now (area .exit)) (h .n) ≡ upd v (columnSlot h k) (tab (h .n) (columnWord (compactOf h theta v) k))) ⌝ }
+// A column: the y of a pair, or theta times its s.
+fn lay_column(area: &mut [f64], shape: Shape, theta: f64, column: usize)
+    requires { ⌜ Sound shape (length (now area)) × (column < 2 * shape .pairs) ⌝ }
+    ensures { λ _. ⌜ (let v = view (now (area .entry)) (shape .n) in
+        view (now (area .exit)) (shape .n) ≡ upd v (columnSlot shape column) (tab (shape .n) (columnWord (compactOf shape theta v) column))) ⌝ }
 {
-    let to = column_slot(h, k);
-    if k < h.pairs {
-        let p = pair_slot(area, h, k);
-        area::copy(area, h.n, to, p + 1);
+    let to = column_slot(shape, column);
+    if column < shape.pairs {
+        let slot = pair_slot(area, shape, column);
+        area::copy(area, shape.n, to, slot + 1);
     } else {
-        let q = pair_slot(area, h, k - h.pairs);
-        scale(area, h.n, to, q, theta);
+        let slot = pair_slot(area, shape, column - shape.pairs);
+        scale(area, shape.n, to, slot, theta);
     }
 }
 
 // Every column, each in its own vector past the pairs; the vectors below stay.
-pub fn lay_columns(area: &mut [f64], h: Shape, theta: f64)
-    requires { ⌜ Sound h (length (now area)) ⌝ }
-    ensures { λ _. ⌜ Laid h theta (view (now (area .exit)) (h .n)) × PairsKept h (view (now (area .entry)) (h .n)) (view (now (area .exit)) (h .n)) ⌝ }
+pub fn lay_columns(area: &mut [f64], shape: Shape, theta: f64)
+    requires { ⌜ Sound shape (length (now area)) ⌝ }
+    ensures { λ _. ⌜ Laid shape theta (view (now (area .exit)) (shape .n))
+        × PairsKept shape (view (now (area .entry)) (shape .n)) (view (now (area .exit)) (shape .n)) ⌝ }
 {
-    let size = 2 * h.pairs;
-    let mut k = 0;
-    while k < size {
-        lay_column(area, h, theta, k);
-        k += 1;
+    let size = 2 * shape.pairs;
+    let mut column = 0;
+    while column < size {
+        lay_column(area, shape, theta, column);
+        column += 1;
     }
 }
 
 // ---- products with B
 
-// The columns' products with vector q.
-fn right_side(area: &[f64], h: Shape, theta: f64, q: usize) -> [f64; 32]
-    requires { ⌜ Sound h (length (now area)) × Laid h theta (view (now area) (h .n)) × (q < firstPair) ⌝ }
-    ensures { λ r. ⌜ r ≡ rightSide (h .n) (compactOf h theta (view (now (area .entry)) (h .n))) (view (now (area .entry)) (h .n) q) ⌝ }
+// The columns' products with the vector.
+fn right_side(area: &[f64], shape: Shape, theta: f64, vector: usize) -> [f64; 32]
+    requires { ⌜ Sound shape (length (now area)) × Laid shape theta (view (now area) (shape .n)) × (vector < firstPair) ⌝ }
+    ensures { λ r. ⌜ r ≡ rightSide (shape .n) (compactOf shape theta (view (now (area .entry)) (shape .n))) (view (now (area .entry)) (shape .n) vector) ⌝ }
 {
-    let size = 2 * h.pairs;
-    let mut r = zeros();
-    let mut k = 0;
-    while k < size {
-        r[k] = area::dot(area, h.n, column_slot(h, k), q);
-        k += 1;
+    let size = 2 * shape.pairs;
+    let mut right = zeros();
+    let mut column = 0;
+    while column < size {
+        right[column] = area::dot(area, shape.n, column_slot(shape, column), vector);
+        column += 1;
     }
-    r
+    right
 }
 
-// The weights of the columns in the product with vector q, where there are any.
+// The weights of the columns in the product with the vector, where there are any.
 fn weights(
     area: &[f64],
-    h: Shape,
+    shape: Shape,
     theta: f64,
     found: bool,
     rows: &[[f64; 32]; 32],
     multipliers: &[[f64; 32]; 32],
     order: &[usize; 32],
-    q: usize,
+    vector: usize,
 ) -> solve::Answer
-    requires { ⌜ Sound h (length (now area)) × Prepared h theta found (now rows) (now multipliers) (now order) (view (now area) (h .n)) × (q < firstPair) ⌝ }
-    ensures { λ r. ⌜ answerOf r ≡ weightsOf (h .n) (compactOf h theta (view (now (area .entry)) (h .n))) (view (now (area .entry)) (h .n) q) ⌝ }
+    requires { ⌜ Sound shape (length (now area)) × Prepared shape theta found (now rows) (now multipliers) (now order) (view (now area) (shape .n))
+        × (vector < firstPair) ⌝ }
+    ensures { λ r. ⌜ (let v = view (now (area .entry)) (shape .n) in answerOf r ≡ weightsOf (shape .n) (compactOf shape theta v) (v vector)) ⌝ }
 {
-    if h.pairs == 0 {
-        let z = zeros();
-        return solve::Answer { ok: true, x: z };
+    if shape.pairs == 0 {
+        let zero_row = zeros();
+        return solve::Answer {
+            ok: true,
+            x: zero_row,
+        };
     }
-    let y = right_side(area, h, theta, q);
-    solve::solve_with(2 * h.pairs, found, rows, multipliers, order, y)
+    let right = right_side(area, shape, theta, vector);
+    solve::solve_with(2 * shape.pairs, found, rows, multipliers, order, right)
 }
 
-// Vector p becomes itself less w times vector q.
-fn less(area: &mut [f64], n: usize, p: usize, q: usize, w: f64)
-    requires { ⌜ (p * n + n ≤ length (now area)) × (q * n + n ≤ length (now area)) ⌝ }
-    ensures { λ _. ⌜ view (now (area .exit)) n ≡ rowwise n p (λ (i : ℕ) v. minus (v p) (times w (v q))) (view (now (area .entry)) n) ⌝ }
+// Vector `to` becomes itself less the factor times vector `from`.
+fn less(area: &mut [f64], n: usize, to: usize, from: usize, factor: f64)
+    requires { ⌜ (to * n + n ≤ length (now area)) × (from * n + n ≤ length (now area)) ⌝ }
+    ensures { λ _. ⌜ view (now (area .exit)) n ≡ rowwise n to (λ (i : ℕ) v. minus (v to) (times factor (v from))) (view (now (area .entry)) n) ⌝ }
 {
-    let to = p * n;
-    let from = q * n;
+    let to_start = to * n;
+    let from_start = from * n;
     let mut i = 0;
     while i < n {
-        area[to + i] = area[to + i] - w * area[from + i];
+        area[to_start + i] = area[to_start + i] - factor * area[from_start + i];
         i += 1;
     }
 }
 
-// Vector p becomes theta times vector q, less each column with its weight.
-fn less_columns(area: &mut [f64], h: Shape, theta: f64, z: [f64; 32], p: usize, q: usize)
-    requires { ⌜ Sound h (length (now area)) × Laid h theta (view (now area) (h .n)) × (p < firstPair) × (q < firstPair) ⌝ }
-    ensures { λ _. ⌜ (let v = view (now (area .entry)) (h .n) in
-        view (now (area .exit)) (h .n) ≡ upd v p (tab (h .n) (lessTo (compactOf h theta v) z (v q) (2 * h .pairs)))) ⌝ }
+// Vector `to` becomes theta times vector `from`, less each column with its weight.
+fn less_columns(
+    area: &mut [f64],
+    shape: Shape,
+    theta: f64,
+    weights: [f64; 32],
+    to: usize,
+    from: usize,
+)
+    requires { ⌜ Sound shape (length (now area)) × Laid shape theta (view (now area) (shape .n)) × (to < firstPair) × (from < firstPair) ⌝ }
+    ensures { λ _. ⌜ (let v = view (now (area .entry)) (shape .n) in
+        view (now (area .exit)) (shape .n) ≡ upd v to (tab (shape .n) (lessTo (compactOf shape theta v) weights (v from) (2 * shape .pairs)))) ⌝ }
 {
-    let size = 2 * h.pairs;
-    scale(area, h.n, p, q, theta);
-    let mut k = 0;
-    while k < size {
-        less(area, h.n, p, column_slot(h, k), z[k]);
-        k += 1;
+    let size = 2 * shape.pairs;
+    scale(area, shape.n, to, from, theta);
+    let mut column = 0;
+    while column < size {
+        less(
+            area,
+            shape.n,
+            to,
+            column_slot(shape, column),
+            weights[column],
+        );
+        column += 1;
     }
 }
 
-// `times`: vector p becomes B times vector q; false, and p is scratch, where there is no such product.
+// `times`: vector `to` becomes B times vector `from`; false, and `to` is scratch, where there is no such product.
 pub fn product(
     area: &mut [f64],
-    h: Shape,
+    shape: Shape,
     theta: f64,
     found: bool,
     rows: &[[f64; 32]; 32],
     multipliers: &[[f64; 32]; 32],
     order: &[usize; 32],
-    p: usize,
-    q: usize,
+    to: usize,
+    from: usize,
 ) -> bool
-    requires { ⌜ Sound h (length (now area)) × Prepared h theta found (now rows) (now multipliers) (now order) (view (now area) (h .n)) × (p < firstPair)
-        × (q < firstPair) ⌝ }
-    ensures { λ r. ⌜ Multiplied h theta p q (view (now (area .entry)) (h .n)) r (view (now (area .exit)) (h .n)) ⌝ }
+    requires { ⌜ Sound shape (length (now area)) × Prepared shape theta found (now rows) (now multipliers) (now order) (view (now area) (shape .n))
+        × (to < firstPair) × (from < firstPair) ⌝ }
+    ensures { λ r. ⌜ Multiplied shape theta to from (view (now (area .entry)) (shape .n)) r (view (now (area .exit)) (shape .n)) ⌝ }
 {
-    let w = weights(area, h, theta, found, rows, multipliers, order, q);
-    if !w.ok {
+    let answer = weights(area, shape, theta, found, rows, multipliers, order, from);
+    if !answer.ok {
         return false;
     }
-    let z = w.x;
-    less_columns(area, h, theta, z, p, q);
-    area::all_finite(area, h.n, p)
+    let weights = answer.x;
+    less_columns(area, shape, theta, weights, to, from);
+    area::all_finite(area, shape.n, to)
 }

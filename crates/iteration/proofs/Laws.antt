@@ -16,13 +16,13 @@ use Rattle.definition.specs.Counters.{Termination}
 use Rattle.definition.specs.Machine.{State, Machine, state, withCompact, ending}
 use Rattle.definition.specs.Driver.{Ends, endsFrom, endsOf, searchAlong, towards, withoutPairs, descend, gradientSmall, iterate}
 use Rattle.float.proofs.Constants.{oneWord}
-use Rattle.area.specs.Area.{Vecs, view, firstPair, ScratchOnly, given, X, G, Lower, Upper, Direction, Cauchy}
+use Rattle.area.specs.Area.{Vecs, boundsOf, view, firstPair, ScratchOnly, given, X, G, Lower, Upper, Direction, Cauchy}
 use Rattle.area.proofs.Laws.{saved-refl, saved-upd}
 use Rattle.compact.specs.declared.Shape.{Shape}
 use Rattle.compact.specs.State.{pairsOf, compactOf, Sound, PairsKept}
 use Rattle.compact.proofs.Laws.{pairs-count}
 use Rattle.cauchy.specs.State.{Points}
-use Rattle.subspace.specs.State.{boundsOf, minimumAt, Minimizes, endsIn, directed}
+use Rattle.subspace.specs.State.{minimumAt, Minimizes, endsIn, directed}
 use Rattle.subspace.proofs.Ends.{bothEnds, both-ends}
 use Rattle.fit.specs.declared.Fit.{Fit}
 use Rattle.fit.specs.State.{Turns, Steps, machineOf}

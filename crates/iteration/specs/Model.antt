@@ -7,10 +7,10 @@ use lib.Ieee.{Float}
 use Rattle.definition.specs.Problem.{Terms}
 use Rattle.definition.specs.Machine.{state}
 use Rattle.definition.specs.Driver.{Ends, endsOf}
-use Rattle.area.specs.Area.{Vecs, firstPair, firstColumn, FreeKept, X, G}
+use Rattle.area.specs.Area.{Vecs, boundsOf, firstPair, firstColumn, FreeKept, X, G}
 use Rattle.compact.specs.declared.Shape.{Shape}
 use Rattle.compact.specs.State.{compactOf}
-use Rattle.subspace.specs.State.{boundsOf, endsIn}
+use Rattle.subspace.specs.State.{endsIn}
 
 -- the ends that stand in their vectors, where there are any
 abbrev pub endsWhere : Bool → Vecs → Option Ends

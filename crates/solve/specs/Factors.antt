@@ -29,8 +29,9 @@ forwardTo j n f p b = foldTo j (λ k x. stepped n k (row f k) (getD p k 0) x) b
 
 -- ---- the matrix
 
-abbrev pub Within : ℕ → List ℕ → Type 0
-Within n p = (k : ℕ) → k < n → getD p k 0 < 32
+-- each of the first n rows exchanged is one of the 32
+abbrev pub OrderInRange : ℕ → List ℕ → Type 0
+OrderInRange n p = (k : ℕ) → k < n → getD p k 0 < 32
 
 -- a becomes t, with the multipliers m of the rows below row k: so it goes with any right side
 pub record Eliminates (n k : ℕ) (a : Matrix) (m : List Float) (t : Matrix) : Type 0 where
@@ -42,7 +43,7 @@ pub record Clears (n : ℕ) (scale : Float) (k : ℕ) (a : Matrix) (ok : Bool) (
 
 -- every column is done, where ok says that each has a pivot
 pub record Triangular (n : ℕ) (scale : Float) (a : Matrix) (ok : Bool) (t f : Matrix) (p : List ℕ) : Type 0 where
-  pub within : ok ≡ true → Within n p
+  pub within : ok ≡ true → OrderInRange n p
   pub is : (b : List Float) → systemIf ok (system t (forwardTo n n f p b)) ≡ triangular n scale (system a b)
 
 abbrev pub regular : Float → Bool
@@ -50,7 +51,7 @@ regular scale = finite scale && not (Ieee.eq scale zero64)
 
 -- a is eliminated, where ok says that it can be
 pub record Factored (n : ℕ) (a : Matrix) (ok : Bool) (t f : Matrix) (p : List ℕ) : Type 0 where
-  pub within : ok ≡ true → Within n p
+  pub within : ok ≡ true → OrderInRange n p
   pub is : (b : List Float) → systemIf ok (system t (forwardTo n n f p b)) ≡ cond (regular (scaleOf n a)) (triangular n (scaleOf n a) (system a b)) none
 
 -- the solution by these

@@ -11,7 +11,7 @@ use Rattle.definition.specs.Vector.{tab, word, foldTo}
 use Rattle.definition.specs.Solve.{Matrix, entry}
 use Rattle.definition.specs.Compact.{columnWord}
 use Rattle.definition.specs.Geometry.{free, freeSum, correction}
-use Rattle.area.specs.Area.{Vecs, upd, view, wordsAt, rowwise, foldRows, fillOf, Cauchy, ProductD, Step}
+use Rattle.area.specs.Area.{Vecs, boundsOf, upd, view, wordsAt, rowwise, foldRows, fillOf, Cauchy, ProductD, Step}
 use Rattle.area.proofs.Laws.{Folded, fold-more, looped-stays, upd-other}
 use Rattle.compact.specs.declared.Shape.{Shape}
 use Rattle.compact.specs.State.{columnSlot, compactOf, Laid, Modelled}
@@ -19,7 +19,7 @@ use Rattle.compact.proofs.Laws.{tab-get, tab-same, fold-same, pairs-count}
 use Rattle.compact.proofs.Columns.{laid-word}
 use Rattle.compact.proofs.Laws.{upd-twice}
 use Rattle.compact.proofs.Models.{modelled-entry}
-use Rattle.subspace.specs.State.{freeIn, boundsOf, anyFreeAt, freeSumAt, reducedAt, correctionsAt}
+use Rattle.subspace.specs.State.{freeIn, anyFreeAt, freeSumAt, reducedAt, correctionsAt}
 
 -- one free coordinate is enough
 pub any-found : (a : List Float) (n i : ℕ) (t : Bool) → Folded a n false (λ i w t. t || freeIn w) false i → i < n → t ≡ freeIn (wordsAt a n i) → t ≡ true

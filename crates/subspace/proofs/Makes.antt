@@ -13,14 +13,14 @@ use Rattle.definition.specs.Vector.{tab, word, difference, allFinite, _andThen_
 use Rattle.definition.specs.Solve.{Matrix}
 use Rattle.definition.specs.Compact.{count, product}
 use Rattle.definition.specs.Geometry.{free, freeSteps, correction, stepsWithPairs, moved, movedBy, onFree, primalMinimize}
-use Rattle.area.specs.Area.{Vecs, upd, rowwise, given, copyOf, differenceOf, firstFree, ScratchOnly, X, G}
+use Rattle.area.specs.Area.{Vecs, boundsOf, upd, rowwise, given, copyOf, differenceOf, firstFree, ScratchOnly, X, G}
 use Rattle.area.specs.Area.{Lower, Upper, Displacement, Cauchy, Target, ProductD, ProductZ, Step}
 use Rattle.area.proofs.Laws.{scratch-refl, scratch-trans, scratch-upd}
 use Rattle.compact.specs.declared.Shape.{Shape}
 use Rattle.compact.specs.State.{compactOf, Modelled, Prepared, Multiplied}
 use Rattle.compact.proofs.Laws.{tab-get, tab-same, pairs-count}
 use Rattle.compact.proofs.Models.{compact-kept, compact-upd, modelled-kept, prepared-upd}
-use Rattle.subspace.specs.State.{plainIn, weightedIn, movedIn, boundsOf, anyFreeAt, weightsAt, productAt, residualFrom, residualAt}
+use Rattle.subspace.specs.State.{plainIn, weightedIn, movedIn, anyFreeAt, weightsAt, productAt, residualFrom, residualAt}
 use Rattle.subspace.specs.State.{correctionsAt, stepsAt, shareAt, movedAt, movedByAt, onFreeAt, minimumAt, Makes}
 
 scratch-by : {a b : Vecs} (p : ℕ) (x : List Float) → 8 ≤ p → p < firstFree → b ≡ upd a p x → ScratchOnly a b

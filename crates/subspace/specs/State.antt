@@ -9,13 +9,13 @@ use lib.Ieee as Ieee
 use lib.Ieee.{Float}
 use Rattle.definition.specs.Number.{plus, minus, times, over, min, clamp, zero64}
 use Rattle.definition.specs.Vector.{tab, word, foldTo, difference, _andThen_}
-use Rattle.definition.specs.Problem.{Bounds, mostCoordinates}
+use Rattle.definition.specs.Problem.{mostCoordinates}
 use Rattle.definition.specs.Solve.{Matrix, row, entry, put, solve}
 use Rattle.definition.specs.Compact.{count, padded, zeroRow, paddedRows, product}
 use Rattle.definition.specs.Geometry.{anyFree, freeSum, reducedEntry, reducedRight, correction, stepsOf, shareOf, moved, movedBy, onFree, primalMinimize}
 use Rattle.definition.specs.Machine.{state}
 use Rattle.definition.specs.Driver.{Ends, chosenEnd}
-use Rattle.area.specs.Area.{Vecs, upd, given, ScratchOnly, X, G, Lower, Upper, Direction, Cauchy, Target, ProductD, Step}
+use Rattle.area.specs.Area.{Vecs, boundsOf, upd, given, ScratchOnly, X, G, Lower, Upper, Direction, Cauchy, Target, ProductD, Step}
 use Rattle.compact.specs.declared.Shape.{Shape}
 use Rattle.compact.specs.State.{columnSlot, compactOf}
 
@@ -91,9 +91,6 @@ abbrev pub reducedBy : Float → Matrix → ℕ → ℕ → Float → Float
 reducedBy theta b i j x = minus (entry b i j) (over x theta)
 
 -- ---- the definition's, at the vectors of the area
-
-abbrev pub boundsOf : Vecs → Bounds
-boundsOf v = record { lower = v Lower; upper = v Upper }
 
 abbrev pub anyFreeAt : ℕ → Vecs → Bool
 anyFreeAt n v = anyFree n (boundsOf v) (v Cauchy)

@@ -11,8 +11,11 @@ ghost use Rattle.definition.specs.Compact.{padded, paddedRows};
 ghost use Rattle.area.specs.Area.{view, upd, wordsAt, rowwise, firstPair, Target, ProductD, ProductZ, Step, G};
 ghost use Rattle.solve.specs.Answers.{answerOf};
 ghost use Rattle.compact.specs.State.{compactOf, columnSlot, Sound, Laid, Modelled, Prepared};
-ghost use Rattle.subspace.specs.State.{freeIn, freeTerm, columnsIn, grid, rowEach, each, productTo, fourTo, addRows, Held, addFree, reducedBy, plainIn, weightedIn, shortenedIn, shareIn, movedIn, differenceArray, directionArray, directed, Makes, Minimizes};
-ghost use Rattle.subspace.specs.State.{anyFreeAt, freeSumAt, reducedAt, rightAt, weightsAt, residualAt, correctionsAt, stepsAt, shareAt, movedAt, movedByAt, onFreeAt, minimumAt};
+ghost use Rattle.subspace.specs.State.{freeIn, freeTerm, columnsIn, grid, rowEach, each, productTo, fourTo, addRows, Held};
+ghost use Rattle.subspace.specs.State.{addFree, reducedBy, plainIn, weightedIn, shortenedIn, shareIn, movedIn};
+ghost use Rattle.subspace.specs.State.{differenceArray, directionArray, directed, Makes, Minimizes};
+ghost use Rattle.subspace.specs.State.{anyFreeAt, freeSumAt, reducedAt, rightAt, weightsAt};
+ghost use Rattle.subspace.specs.State.{residualAt, correctionsAt, stepsAt, shareAt, movedAt, movedByAt, onFreeAt, minimumAt};
 
 // ---- free coordinates
 
@@ -43,29 +46,29 @@ fn any_free(area: &[f64], n: usize) -> bool
     false
 }
 
-// The sum s, and the product of the words at i of vectors p and q where i is free.
-fn free_term(area: &[f64], n: usize, p: usize, q: usize, i: usize, s: f64) -> f64
-    requires { ⌜ (firstPair * n ≤ length (now area)) × (p * n + n ≤ length (now area)) × (q * n + n ≤ length (now area)) × (i < n) ⌝ }
-    ensures { λ r. ⌜ r ≡ freeTerm p q (wordsAt (now (area .entry)) n i) s ⌝ }
+// The sum, and the product of the words at i of vectors `left` and `right` where i is free.
+fn free_term(area: &[f64], n: usize, left: usize, right: usize, i: usize, sum: f64) -> f64
+    requires { ⌜ (firstPair * n ≤ length (now area)) × (left * n + n ≤ length (now area)) × (right * n + n ≤ length (now area)) × (i < n) ⌝ }
+    ensures { λ r. ⌜ r ≡ freeTerm left right (wordsAt (now (area .entry)) n i) sum ⌝ }
 {
     if is_free(area, n, i) {
-        return s + area[p * n + i] * area[q * n + i];
+        return sum + area[left * n + i] * area[right * n + i];
     }
-    s
+    sum
 }
 
-// The product of vectors p and q over the free coordinates, from the left and from -0.0.
-fn free_sum(area: &[f64], n: usize, p: usize, q: usize) -> f64
-    requires { ⌜ (firstPair * n ≤ length (now area)) × (p * n + n ≤ length (now area)) × (q * n + n ≤ length (now area)) ⌝ }
-    ensures { λ r. ⌜ r ≡ freeSumAt n (view (now (area .entry)) n) p q ⌝ }
+// The product of vectors `left` and `right` over the free coordinates, from the left and from -0.0.
+fn free_sum(area: &[f64], n: usize, left: usize, right: usize) -> f64
+    requires { ⌜ (firstPair * n ≤ length (now area)) × (left * n + n ≤ length (now area)) × (right * n + n ≤ length (now area)) ⌝ }
+    ensures { λ r. ⌜ r ≡ freeSumAt n (view (now (area .entry)) n) left right ⌝ }
 {
-    let mut s = float::NEG_ZERO;
+    let mut sum = float::NEG_ZERO;
     let mut i = 0;
     while i < n {
-        s = free_term(area, n, p, q, i, s);
+        sum = free_term(area, n, left, right, i, sum);
         i += 1;
     }
-    s
+    sum
 }
 
 // ---- the residual B (cauchy - x) + g
@@ -85,20 +88,20 @@ fn add_gradient(area: &mut [f64], n: usize)
 // The residual in its vector; false where there is no product with the displacement.
 fn residual(
     area: &mut [f64],
-    h: compact::Shape,
+    shape: compact::Shape,
     theta: f64,
     found: bool,
     rows: &[[f64; 32]; 32],
     multipliers: &[[f64; 32]; 32],
     order: &[usize; 32],
 ) -> bool
-    requires { ⌜ Sound h (length (now area)) × Prepared h theta found (now rows) (now multipliers) (now order) (view (now area) (h .n)) ⌝ }
-    ensures { λ r. ⌜ (let v = view (now (area .entry)) (h .n) in Makes ProductD (residualAt h theta v) v r (view (now (area .exit)) (h .n))) ⌝ }
+    requires { ⌜ Sound shape (length (now area)) × Prepared shape theta found (now rows) (now multipliers) (now order) (view (now area) (shape .n)) ⌝ }
+    ensures { λ r. ⌜ (let v = view (now (area .entry)) (shape .n) in Makes ProductD (residualAt shape theta v) v r (view (now (area .exit)) (shape .n))) ⌝ }
 {
-    area::difference(area, h.n, area::DISPLACEMENT, area::CAUCHY, area::X);
+    area::difference(area, shape.n, area::DISPLACEMENT, area::CAUCHY, area::X);
     let found = compact::product(
         area,
-        h,
+        shape,
         theta,
         found,
         rows,
@@ -110,7 +113,7 @@ fn residual(
     if !found {
         return false;
     }
-    add_gradient(area, h.n);
+    add_gradient(area, shape.n);
     true
 }
 
@@ -121,13 +124,13 @@ fn start_row(size: usize) -> [f64; 32]
     requires { ⌜ size ≤ 32 ⌝ }
     ensures { λ r. ⌜ r ≡ padded zero64 size (λ j. negZero) ⌝ }
 {
-    let mut r = compact::zeros();
+    let mut row = compact::zeros();
     let mut j = 0;
     while j < size {
-        r[j] = float::NEG_ZERO;
+        row[j] = float::NEG_ZERO;
         j += 1;
     }
-    r
+    row
 }
 
 // The sums where there is no term.
@@ -135,218 +138,246 @@ fn start(size: usize) -> [[f64; 32]; 32]
     requires { ⌜ size ≤ 32 ⌝ }
     ensures { λ r. ⌜ r ≡ grid size (λ i j. negZero) ⌝ }
 {
-    let r = start_row(size);
-    let z = compact::zeros();
-    let mut a = [z; 32];
+    let row = start_row(size);
+    let zero_row = compact::zeros();
+    let mut sums = [zero_row; 32];
     let mut i = 0;
     while i < size {
-        a[i] = r;
+        sums[i] = row;
         i += 1;
     }
-    a
+    sums
 }
 
-// The words of the columns at coordinate k.
-fn gather(area: &[f64], h: compact::Shape, k: usize) -> [f64; 32]
-    requires { ⌜ Sound h (length (now area)) × (k < h .n) ⌝ }
-    ensures { λ r. ⌜ r ≡ columnsIn h (wordsAt (now (area .entry)) (h .n) k) ⌝ }
+// The words of the columns at coordinate i.
+fn gather(area: &[f64], shape: compact::Shape, i: usize) -> [f64; 32]
+    requires { ⌜ Sound shape (length (now area)) × (i < shape .n) ⌝ }
+    ensures { λ r. ⌜ r ≡ columnsIn shape (wordsAt (now (area .entry)) (shape .n) i) ⌝ }
 {
-    let size = 2 * h.pairs;
-    let mut r = compact::zeros();
+    let size = 2 * shape.pairs;
+    let mut row = compact::zeros();
     let mut j = 0;
     while j < size {
-        r[j] = area::get(area, h.n, compact::column_slot(h, j), k);
+        row[j] = area::get(area, shape.n, compact::column_slot(shape, j), i);
         j += 1;
     }
-    r
+    row
 }
 
-// Row i of the sums, and the products of r with its word i.
-fn add_products(a: &mut [[f64; 32]; 32], size: usize, r: &[f64; 32], i: usize)
+// Row i of the sums, and the products of the row with its word i.
+fn add_products(sums: &mut [[f64; 32]; 32], size: usize, row: &[f64; 32], i: usize)
     requires { ⌜ (i < size) × (size ≤ 32) ⌝ }
-    ensures { λ _. ⌜ now (a .exit) ≡ rowEach size (productTo (now (r .entry)) i) i (now (a .entry)) ⌝ }
+    ensures { λ _. ⌜ now (sums .exit) ≡ rowEach size (productTo (now (row .entry)) i) i (now (sums .entry)) ⌝ }
 {
     let mut j = 0;
     while j < size {
-        a[i][j] = a[i][j] + r[i] * r[j];
+        sums[i][j] = sums[i][j] + row[i] * row[j];
         j += 1;
     }
 }
 
-// The sums, and the products of any two words of r.
-fn add_row(a: &mut [[f64; 32]; 32], size: usize, r: &[f64; 32])
+// The sums, and the products of any two words of the row.
+fn add_row(sums: &mut [[f64; 32]; 32], size: usize, row: &[f64; 32])
     requires { ⌜ size ≤ 32 ⌝ }
-    ensures { λ _. ⌜ now (a .exit) ≡ each size (productTo (now (r .entry))) (now (a .entry)) ⌝ }
+    ensures { λ _. ⌜ now (sums .exit) ≡ each size (productTo (now (row .entry))) (now (sums .entry)) ⌝ }
 {
     let mut i = 0;
     while i < size {
-        add_products(a, size, r, i);
+        add_products(sums, size, row, i);
         i += 1;
     }
 }
 
-// Row i of the sums, and the products of each of the four rows of p with its word i.
-fn add_four(a: &mut [[f64; 32]; 32], size: usize, p: &[[f64; 32]; 4], i: usize)
+// Row i of the sums, and the products of each of the four rows of the batch with its word i.
+fn add_four(sums: &mut [[f64; 32]; 32], size: usize, batch: &[[f64; 32]; 4], i: usize)
     requires { ⌜ (i < size) × (size ≤ 32) ⌝ }
-    ensures { λ _. ⌜ now (a .exit) ≡ rowEach size (fourTo (now (p .entry)) i) i (now (a .entry)) ⌝ }
+    ensures { λ _. ⌜ now (sums .exit) ≡ rowEach size (fourTo (now (batch .entry)) i) i (now (sums .entry)) ⌝ }
 {
     let mut j = 0;
     while j < size {
-        a[i][j] = a[i][j]
-            + p[0][i] * p[0][j]
-            + p[1][i] * p[1][j]
-            + p[2][i] * p[2][j]
-            + p[3][i] * p[3][j];
+        sums[i][j] = sums[i][j]
+            + batch[0][i] * batch[0][j]
+            + batch[1][i] * batch[1][j]
+            + batch[2][i] * batch[2][j]
+            + batch[3][i] * batch[3][j];
         j += 1;
     }
 }
 
-// The sums, and the products of any two words of each of the four rows of p: a sum is loaded and stored once for the four.
-fn add_fours(a: &mut [[f64; 32]; 32], size: usize, p: &[[f64; 32]; 4])
+// The sums, and the products of any two words of each of the four rows of the batch: a sum is loaded and stored once for the four.
+fn add_fours(sums: &mut [[f64; 32]; 32], size: usize, batch: &[[f64; 32]; 4])
     requires { ⌜ size ≤ 32 ⌝ }
-    ensures { λ _. ⌜ now (a .exit) ≡ each size (fourTo (now (p .entry))) (now (a .entry)) ⌝ }
+    ensures { λ _. ⌜ now (sums .exit) ≡ each size (fourTo (now (batch .entry))) (now (sums .entry)) ⌝ }
 {
     let mut i = 0;
     while i < size {
-        add_four(a, size, p, i);
+        add_four(sums, size, batch, i);
         i += 1;
     }
 }
 
-// The sums, and the products of any two words of each of the first count rows of p.
-fn add_rest(a: &mut [[f64; 32]; 32], size: usize, p: &[[f64; 32]; 4], count: usize)
+// The sums, and the products of any two words of each of the first count rows of the batch.
+fn add_rest(sums: &mut [[f64; 32]; 32], size: usize, batch: &[[f64; 32]; 4], count: usize)
     requires { ⌜ (size ≤ 32) × (count < 4) ⌝ }
-    ensures { λ _. ⌜ now (a .exit) ≡ addRows size (now (p .entry)) count (now (a .entry)) ⌝ }
+    ensures { λ _. ⌜ now (sums .exit) ≡ addRows size (now (batch .entry)) count (now (sums .entry)) ⌝ }
 {
-    let mut t = 0;
-    while t < count {
-        let r = p[t];
-        add_row(a, size, &r);
-        t += 1;
+    let mut k = 0;
+    while k < count {
+        let row = batch[k];
+        add_row(sums, size, &row);
+        k += 1;
     }
 }
 
-// The columns at coordinate k become row count of p where it is free, and four rows are added to the sums; how many are left.
+// The columns at coordinate i become row count of the batch where it is free, and four rows are added to the sums; how many are left.
 fn push(
-    a: &mut [[f64; 32]; 32],
-    p: &mut [[f64; 32]; 4],
+    sums: &mut [[f64; 32]; 32],
+    batch: &mut [[f64; 32]; 4],
     count: usize,
     area: &[f64],
-    h: compact::Shape,
-    k: usize,
+    shape: compact::Shape,
+    i: usize,
 ) -> usize
-    requires { ⌜ Sound h (length (now area)) × (k < h .n) × Held (2 * h .pairs) (now p) count (now a) ⌝ }
-    ensures { λ r. ⌜ Held (2 * h .pairs) (now (p .exit)) r (now (a .exit))
-        × (addRows (2 * h .pairs) (now (p .exit)) r (now (a .exit))
-        ≡ addFree h (wordsAt (now (area .entry)) (h .n) k) (addRows (2 * h .pairs) (now (p .entry)) count (now (a .entry)))) ⌝ }
+    requires { ⌜ Sound shape (length (now area)) × (i < shape .n) × Held (2 * shape .pairs) (now batch) count (now sums) ⌝ }
+    ensures { λ r. ⌜ Held (2 * shape .pairs) (now (batch .exit)) r (now (sums .exit))
+        × (addRows (2 * shape .pairs) (now (batch .exit)) r (now (sums .exit))
+        ≡ addFree shape (wordsAt (now (area .entry)) (shape .n) i) (addRows (2 * shape .pairs) (now (batch .entry)) count (now (sums .entry)))) ⌝ }
 {
-    if !is_free(area, h.n, k) {
+    if !is_free(area, shape.n, i) {
         return count;
     }
-    let r = gather(area, h, k);
-    p[count] = r;
+    let row = gather(area, shape, i);
+    batch[count] = row;
     if count < 3 {
         return count + 1;
     }
-    add_fours(a, 2 * h.pairs, p);
+    add_fours(sums, 2 * shape.pairs, batch);
     0
 }
 
 // The products of any two columns over the free coordinates.
-fn sums(area: &[f64], h: compact::Shape) -> [[f64; 32]; 32]
-    requires { ⌜ Sound h (length (now area)) ⌝ }
-    ensures { λ r. ⌜ r ≡ grid (2 * h .pairs) (λ i j. freeSumAt (h .n) (view (now (area .entry)) (h .n)) (columnSlot h i) (columnSlot h j)) ⌝ }
+fn sums(area: &[f64], shape: compact::Shape) -> [[f64; 32]; 32]
+    requires { ⌜ Sound shape (length (now area)) ⌝ }
+    ensures { λ r. ⌜ (let v = view (now (area .entry)) (shape .n) in
+        r ≡ grid (2 * shape .pairs) (λ i j. freeSumAt (shape .n) v (columnSlot shape i) (columnSlot shape j))) ⌝ }
 {
-    let mut a = start(2 * h.pairs);
-    let z = compact::zeros();
-    let mut p = [z; 4];
+    let mut sums = start(2 * shape.pairs);
+    let zero_row = compact::zeros();
+    let mut batch = [zero_row; 4];
     let mut count = 0;
-    let mut k = 0;
-    while k < h.n {
-        count = push(&mut a, &mut p, count, area, h, k);
-        k += 1;
+    let mut i = 0;
+    while i < shape.n {
+        count = push(&mut sums, &mut batch, count, area, shape, i);
+        i += 1;
     }
-    add_rest(&mut a, 2 * h.pairs, &p, count);
-    a
+    add_rest(&mut sums, 2 * shape.pairs, &batch, count);
+    sums
 }
 
 // Row i of the sums becomes that of the block, less the sums by theta.
-fn reduce_row(a: &mut [[f64; 32]; 32], block: &[[f64; 32]; 32], theta: f64, size: usize, i: usize)
+fn reduce_row(
+    sums: &mut [[f64; 32]; 32],
+    block: &[[f64; 32]; 32],
+    theta: f64,
+    size: usize,
+    i: usize,
+)
     requires { ⌜ (i < size) × (size ≤ 32) ⌝ }
-    ensures { λ _. ⌜ now (a .exit) ≡ rowEach size (reducedBy theta (now (block .entry)) i) i (now (a .entry)) ⌝ }
+    ensures { λ _. ⌜ now (sums .exit) ≡ rowEach size (reducedBy theta (now (block .entry)) i) i (now (sums .entry)) ⌝ }
 {
     let mut j = 0;
     while j < size {
-        a[i][j] = block[i][j] - a[i][j] / theta;
+        sums[i][j] = block[i][j] - sums[i][j] / theta;
         j += 1;
     }
 }
 
 // The reduced matrix, 2 rows and columns for each pair.
-fn reduced(area: &[f64], h: compact::Shape, theta: f64, block: &[[f64; 32]; 32]) -> [[f64; 32]; 32]
-    requires { ⌜ Sound h (length (now area)) × Modelled h theta (now block) (view (now area) (h .n)) ⌝ }
-    ensures { λ r. ⌜ r ≡ paddedRows (compactOf h theta (view (now (area .entry)) (h .n))) (reducedAt h theta (view (now (area .entry)) (h .n))) ⌝ }
+fn reduced(
+    area: &[f64],
+    shape: compact::Shape,
+    theta: f64,
+    block: &[[f64; 32]; 32],
+) -> [[f64; 32]; 32]
+    requires { ⌜ Sound shape (length (now area)) × Modelled shape theta (now block) (view (now area) (shape .n)) ⌝ }
+    ensures { λ r. ⌜ (let v = view (now (area .entry)) (shape .n) in r ≡ paddedRows (compactOf shape theta v) (reducedAt shape theta v)) ⌝ }
 {
-    let size = 2 * h.pairs;
-    let mut a = sums(area, h);
+    let size = 2 * shape.pairs;
+    let mut matrix = sums(area, shape);
     let mut i = 0;
     while i < size {
-        reduce_row(&mut a, block, theta, size, i);
+        reduce_row(&mut matrix, block, theta, size, i);
         i += 1;
     }
-    a
+    matrix
 }
 
 // The columns' products with the residual over the free coordinates.
-fn reduced_right(area: &[f64], h: compact::Shape, theta: f64) -> [f64; 32]
-    requires { ⌜ Sound h (length (now area)) × Laid h theta (view (now area) (h .n)) ⌝ }
-    ensures { λ r. ⌜ r ≡ rightAt h theta (view (now (area .entry)) (h .n)) ⌝ }
+fn reduced_right(area: &[f64], shape: compact::Shape, theta: f64) -> [f64; 32]
+    requires { ⌜ Sound shape (length (now area)) × Laid shape theta (view (now area) (shape .n)) ⌝ }
+    ensures { λ r. ⌜ r ≡ rightAt shape theta (view (now (area .entry)) (shape .n)) ⌝ }
 {
-    let size = 2 * h.pairs;
-    let mut r = compact::zeros();
+    let size = 2 * shape.pairs;
+    let mut right = compact::zeros();
     let mut i = 0;
     while i < size {
-        r[i] = free_sum(area, h.n, compact::column_slot(h, i), area::PRODUCT_D);
+        right[i] = free_sum(
+            area,
+            shape.n,
+            compact::column_slot(shape, i),
+            area::PRODUCT_D,
+        );
         i += 1;
     }
-    r
+    right
 }
 
 // The weights of the columns that solve the reduced system, where there are any.
-fn weights(area: &[f64], h: compact::Shape, theta: f64, block: &[[f64; 32]; 32]) -> solve::Answer
-    requires { ⌜ Sound h (length (now area)) × Modelled h theta (now block) (view (now area) (h .n)) ⌝ }
-    ensures { λ r. ⌜ answerOf r ≡ weightsAt h theta (view (now (area .entry)) (h .n)) ⌝ }
+fn weights(
+    area: &[f64],
+    shape: compact::Shape,
+    theta: f64,
+    block: &[[f64; 32]; 32],
+) -> solve::Answer
+    requires { ⌜ Sound shape (length (now area)) × Modelled shape theta (now block) (view (now area) (shape .n)) ⌝ }
+    ensures { λ r. ⌜ answerOf r ≡ weightsAt shape theta (view (now (area .entry)) (shape .n)) ⌝ }
 {
-    let a = reduced(area, h, theta, block);
-    let y = reduced_right(area, h, theta);
-    solve::solve(2 * h.pairs, a, y)
+    let matrix = reduced(area, shape, theta, block);
+    let right = reduced_right(area, shape, theta);
+    solve::solve(2 * shape.pairs, matrix, right)
 }
 
 // ---- the step over the free coordinates
 
-// The step becomes itself and vector q times w.
-fn add_column(area: &mut [f64], n: usize, q: usize, w: f64)
-    requires { ⌜ (firstPair * n ≤ length (now area)) × (q * n + n ≤ length (now area)) ⌝ }
-    ensures { λ _. ⌜ view (now (area .exit)) n ≡ rowwise n Step (λ (i : ℕ) v. plus (v Step) (times (v q) w)) (view (now (area .entry)) n) ⌝ }
+// The step becomes itself and vector `from` times the factor.
+fn add_column(area: &mut [f64], n: usize, from: usize, factor: f64)
+    requires { ⌜ (firstPair * n ≤ length (now area)) × (from * n + n ≤ length (now area)) ⌝ }
+    ensures { λ _. ⌜ view (now (area .exit)) n ≡ rowwise n Step (λ (i : ℕ) v. plus (v Step) (times (v from) factor)) (view (now (area .entry)) n) ⌝ }
 {
     let mut i = 0;
     while i < n {
-        area[area::STEP * n + i] = area[area::STEP * n + i] + area[q * n + i] * w;
+        area[area::STEP * n + i] = area[area::STEP * n + i] + area[from * n + i] * factor;
         i += 1;
     }
 }
 
-// The step becomes what the columns with the weights z add to the residual.
-fn corrections(area: &mut [f64], h: compact::Shape, theta: f64, z: [f64; 32])
-    requires { ⌜ Sound h (length (now area)) × Laid h theta (view (now area) (h .n)) ⌝ }
-    ensures { λ _. ⌜ view (now (area .exit)) (h .n) ≡ upd (view (now (area .entry)) (h .n)) Step (correctionsAt h theta (view (now (area .entry)) (h .n)) z) ⌝ }
+// The step becomes what the columns with the weights add to the residual.
+fn corrections(area: &mut [f64], shape: compact::Shape, theta: f64, weights: [f64; 32])
+    requires { ⌜ Sound shape (length (now area)) × Laid shape theta (view (now area) (shape .n)) ⌝ }
+    ensures { λ _. ⌜ (let v = view (now (area .entry)) (shape .n) in
+        view (now (area .exit)) (shape .n) ≡ upd v Step (correctionsAt shape theta v weights)) ⌝ }
 {
-    let size = 2 * h.pairs;
-    area::fill(area, h.n, area::STEP, float::NEG_ZERO);
-    let mut k = 0;
-    while k < size {
-        add_column(area, h.n, compact::column_slot(h, k), z[k]);
-        k += 1;
+    let size = 2 * shape.pairs;
+    area::fill(area, shape.n, area::STEP, float::NEG_ZERO);
+    let mut column = 0;
+    while column < size {
+        add_column(
+            area,
+            shape.n,
+            compact::column_slot(shape, column),
+            weights[column],
+        );
+        column += 1;
     }
 }
 
@@ -368,8 +399,8 @@ fn plain_steps(area: &mut [f64], n: usize, theta: f64)
 {
     let mut i = 0;
     while i < n {
-        let v = plain_at(area, n, theta, i);
-        area[area::STEP * n + i] = v;
+        let value = plain_at(area, n, theta, i);
+        area[area::STEP * n + i] = value;
         i += 1;
     }
 }
@@ -392,28 +423,28 @@ fn weighted_steps(area: &mut [f64], n: usize, theta: f64)
 {
     let mut i = 0;
     while i < n {
-        let v = weighted_at(area, n, theta, i);
-        area[area::STEP * n + i] = v;
+        let value = weighted_at(area, n, theta, i);
+        area[area::STEP * n + i] = value;
         i += 1;
     }
 }
 
 // The steps, by the reduced system's weights where there are pairs.
-fn steps(area: &mut [f64], h: compact::Shape, theta: f64, block: &[[f64; 32]; 32]) -> bool
-    requires { ⌜ Sound h (length (now area)) × Modelled h theta (now block) (view (now area) (h .n)) ⌝ }
-    ensures { λ r. ⌜ Makes Step (stepsAt h theta (view (now (area .entry)) (h .n))) (view (now (area .entry)) (h .n)) r (view (now (area .exit)) (h .n)) ⌝ }
+fn steps(area: &mut [f64], shape: compact::Shape, theta: f64, block: &[[f64; 32]; 32]) -> bool
+    requires { ⌜ Sound shape (length (now area)) × Modelled shape theta (now block) (view (now area) (shape .n)) ⌝ }
+    ensures { λ r. ⌜ (let v = view (now (area .entry)) (shape .n) in Makes Step (stepsAt shape theta v) v r (view (now (area .exit)) (shape .n))) ⌝ }
 {
-    if h.pairs == 0 {
-        plain_steps(area, h.n, theta);
+    if shape.pairs == 0 {
+        plain_steps(area, shape.n, theta);
         return true;
     }
-    let w = weights(area, h, theta, block);
-    if !w.ok {
+    let answer = weights(area, shape, theta, block);
+    if !answer.ok {
         return false;
     }
-    let z = w.x;
-    corrections(area, h, theta, z);
-    weighted_steps(area, h.n, theta);
+    let weights = answer.x;
+    corrections(area, shape, theta, weights);
+    weighted_steps(area, shape.n, theta);
     true
 }
 
@@ -481,8 +512,8 @@ fn moved(area: &mut [f64], n: usize, alpha: f64) -> bool
 {
     let mut i = 0;
     while i < n {
-        let v = moved_at(area, n, alpha, i);
-        area[area::TARGET * n + i] = v;
+        let value = moved_at(area, n, alpha, i);
+        area[area::TARGET * n + i] = value;
         i += 1;
     }
     area::all_finite(area, n, area::TARGET)
@@ -503,7 +534,7 @@ fn moved_by(area: &mut [f64], n: usize) -> bool
 // The target where a coordinate is free.
 fn on_free(
     area: &mut [f64],
-    h: compact::Shape,
+    shape: compact::Shape,
     theta: f64,
     block: &[[f64; 32]; 32],
     found: bool,
@@ -511,25 +542,25 @@ fn on_free(
     multipliers: &[[f64; 32]; 32],
     order: &[usize; 32],
 ) -> bool
-    requires { ⌜ Sound h (length (now area)) × Modelled h theta (now block) (view (now area) (h .n))
-        × Prepared h theta found (now rows) (now multipliers) (now order) (view (now area) (h .n)) ⌝ }
-    ensures { λ r. ⌜ Makes Target (onFreeAt h theta (view (now (area .entry)) (h .n))) (view (now (area .entry)) (h .n)) r (view (now (area .exit)) (h .n)) ⌝ }
+    requires { ⌜ Sound shape (length (now area)) × Modelled shape theta (now block) (view (now area) (shape .n))
+        × Prepared shape theta found (now rows) (now multipliers) (now order) (view (now area) (shape .n)) ⌝ }
+    ensures { λ r. ⌜ (let v = view (now (area .entry)) (shape .n) in Makes Target (onFreeAt shape theta v) v r (view (now (area .exit)) (shape .n))) ⌝ }
 {
-    let found = residual(area, h, theta, found, rows, multipliers, order);
+    let found = residual(area, shape, theta, found, rows, multipliers, order);
     if !found {
         return false;
     }
-    let made = steps(area, h, theta, block);
+    let made = steps(area, shape, theta, block);
     if !made {
         return false;
     }
-    moved_by(area, h.n)
+    moved_by(area, shape.n)
 }
 
 // `primal_minimize`: the minimum over the free coordinates of the Cauchy point becomes the target; false where there is none.
 pub fn primal_minimize(
     area: &mut [f64],
-    h: compact::Shape,
+    shape: compact::Shape,
     theta: f64,
     block: &[[f64; 32]; 32],
     found: bool,
@@ -537,14 +568,14 @@ pub fn primal_minimize(
     multipliers: &[[f64; 32]; 32],
     order: &[usize; 32],
 ) -> bool
-    requires { ⌜ Sound h (length (now area)) × Modelled h theta (now block) (view (now area) (h .n))
-        × Prepared h theta found (now rows) (now multipliers) (now order) (view (now area) (h .n)) ⌝ }
-    ensures { λ r. ⌜ Minimizes (minimumAt h theta (view (now (area .entry)) (h .n))) (view (now (area .entry)) (h .n)) r (view (now (area .exit)) (h .n)) ⌝ }
+    requires { ⌜ Sound shape (length (now area)) × Modelled shape theta (now block) (view (now area) (shape .n))
+        × Prepared shape theta found (now rows) (now multipliers) (now order) (view (now area) (shape .n)) ⌝ }
+    ensures { λ r. ⌜ (let v = view (now (area .entry)) (shape .n) in Minimizes (minimumAt shape theta v) v r (view (now (area .exit)) (shape .n))) ⌝ }
 {
-    if any_free(area, h.n) {
-        return on_free(area, h, theta, block, found, rows, multipliers, order);
+    if any_free(area, shape.n) {
+        return on_free(area, shape, theta, block, found, rows, multipliers, order);
     }
-    area::copy(area, h.n, area::TARGET, area::CAUCHY);
+    area::copy(area, shape.n, area::TARGET, area::CAUCHY);
     true
 }
 
@@ -564,19 +595,19 @@ fn zeros() -> [f64; problem::MOST_COORDINATES]
     [0.0; problem::MOST_COORDINATES]
 }
 
-// The words of `to` less those of `from`, zeros behind them.
-fn difference(to: &[f64], from: &[f64]) -> [f64; problem::MOST_COORDINATES]
-    requires { ⌜ (length (now to) ≤ mostCoordinates) × (length (now from) ≡ length (now to)) ⌝ }
-    ensures { λ r. ⌜ r ≡ differenceArray (length (now (to .entry))) (now (to .entry)) (now (from .entry)) ⌝ }
+// The words of `left` less those of `right`, zeros behind them.
+fn difference(left: &[f64], right: &[f64]) -> [f64; problem::MOST_COORDINATES]
+    requires { ⌜ (length (now left) ≤ mostCoordinates) × (length (now right) ≡ length (now left)) ⌝ }
+    ensures { λ r. ⌜ r ≡ differenceArray (length (now (left .entry))) (now (left .entry)) (now (right .entry)) ⌝ }
 {
-    let n = to.len();
-    let mut d = zeros();
+    let n = left.len();
+    let mut result = zeros();
     let mut i = 0;
     while i < n {
-        d[i] = to[i] - from[i];
+        result[i] = left[i] - right[i];
         i += 1;
     }
-    d
+    result
 }
 
 // The direction from x to the end that the slope towards the target chooses, handed on as that slice.
@@ -584,12 +615,12 @@ fn direction(area: &[f64], n: usize, slope: f64) -> [f64; problem::MOST_COORDINA
     requires { ⌜ (firstPair * n ≤ length (now area)) × (n ≤ mostCoordinates) ⌝ }
     ensures { λ r. ⌜ r ≡ directionArray n slope (view (now (area .entry)) n) ⌝ }
 {
-    let t = area::TARGET * n;
-    let c = area::CAUCHY * n;
-    let x = area::X * n;
-    let target = &area[t..t + n];
-    let cauchy = &area[c..c + n];
-    let point = &area[x..x + n];
+    let target_start = area::TARGET * n;
+    let cauchy_start = area::CAUCHY * n;
+    let x_start = area::X * n;
+    let target = &area[target_start..target_start + n];
+    let cauchy = &area[cauchy_start..cauchy_start + n];
+    let point = &area[x_start..x_start + n];
     difference(end(target, cauchy, slope), point)
 }
 
@@ -600,6 +631,6 @@ pub fn set_direction(area: &mut [f64], n: usize)
 {
     area::difference(area, n, area::DIRECTION, area::TARGET, area::X);
     let slope = area::dot(area, n, area::G, area::DIRECTION);
-    let d = direction(area, n, slope);
-    area::store(area, n, area::DIRECTION, &d[0..n]);
+    let direction = direction(area, n, slope);
+    area::store(area, n, area::DIRECTION, &direction[0..n]);
 }

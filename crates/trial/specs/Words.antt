@@ -4,11 +4,7 @@ use mathlib.Core.Bool.{cond}
 use lib.Ieee as Ieee
 use lib.Ieee.{Float}
 use Rattle.definition.specs.Number.{plus, minus, times, over, min, max, clamp, zero64, infinity}
-use Rattle.definition.specs.Problem.{Bounds}
-use Rattle.area.specs.Area.{Vecs, X, G, Lower, Upper, Direction}
-
-abbrev pub boundsOf : Vecs → Bounds
-boundsOf v = record { lower = v Lower; upper = v Upper }
+use Rattle.area.specs.Area.{X, G, Lower, Upper, Direction}
 
 abbrev pub trialIn : Float → (ℕ → Float) → Float
 trialIn alpha w = clamp (plus (w X) (times alpha (w Direction))) (w Lower) (w Upper)

@@ -9,10 +9,10 @@ use Rattle.area.proofs.all_finite.Statement.{statement}
 use Rattle.area.proofs.all_finite.Tie as tie
 
 abbrev Inv-loop : tie.InvT-loop
-Inv-loop area n p at ok₀ i₀ ok i = Folded area n true (λ i w b. b && finite (w p)) ok i
+Inv-loop area n vector start ok₀ i₀ ok i = Folded area n true (λ i w b. b && finite (w vector)) ok i
 
 abbrev μ-loop : tie.MeasureT-loop
-μ-loop area n p at ok₀ i₀ ok i = n - i
+μ-loop area n vector start ok₀ i₀ ok i = n - i
 
 loop-holds : tie.Need-loop-holds Inv-loop μ-loop
 loop-holds c = fold-none

@@ -6,10 +6,10 @@ use Rattle.area.proofs.copy.Statement.{statement}
 use Rattle.area.proofs.copy.Tie as tie
 
 abbrev Inv-loop : tie.InvT-loop
-Inv-loop area₀ n p q to from i₀ area i = Row area₀ n p (λ i w. w q) area i
+Inv-loop area₀ n to from to-start from-start i₀ area i = Row area₀ n to (λ i w. w from) area i
 
 abbrev μ-loop : tie.MeasureT-loop
-μ-loop area₀ n p q to from i₀ area i = n - i
+μ-loop area₀ n to from to-start from-start i₀ area i = n - i
 
 loop-holds : tie.Need-loop-holds Inv-loop μ-loop
 loop-holds c = row-none (omega arith)

@@ -8,10 +8,10 @@ use Rattle.area.proofs.difference.Statement.{statement}
 use Rattle.area.proofs.difference.Tie as tie
 
 abbrev Inv-loop : tie.InvT-loop
-Inv-loop area₀ n p q r to a b i₀ area i = Row area₀ n p (λ i w. minus (w q) (w r)) area i
+Inv-loop area₀ n to left right to-start left-start right-start i₀ area i = Row area₀ n to (λ i w. minus (w left) (w right)) area i
 
 abbrev μ-loop : tie.MeasureT-loop
-μ-loop area₀ n p q r to a b i₀ area i = n - i
+μ-loop area₀ n to left right to-start left-start right-start i₀ area i = n - i
 
 loop-holds : tie.Need-loop-holds Inv-loop μ-loop
 loop-holds c = row-none (omega arith)

@@ -9,10 +9,10 @@ use Rattle.area.proofs.dot.Statement.{statement}
 use Rattle.area.proofs.dot.Tie as tie
 
 abbrev Inv-loop : tie.InvT-loop
-Inv-loop area n p q a b sum₀ i₀ sum i = Folded area n negZero (λ i w s. plus s (times (w p) (w q))) sum i
+Inv-loop area n left right left-start right-start sum₀ i₀ sum i = Folded area n negZero (λ i w s. plus s (times (w left) (w right))) sum i
 
 abbrev μ-loop : tie.MeasureT-loop
-μ-loop area n p q a b sum₀ i₀ sum i = n - i
+μ-loop area n left right left-start right-start sum₀ i₀ sum i = n - i
 
 loop-holds : tie.Need-loop-holds Inv-loop μ-loop
 unfolding ofBits

@@ -10,13 +10,13 @@ use Rattle.cauchy.proofs.by_slope.Tie as tie
 returns : tie.Need-returns
 returns c =
     let s = c .before .before .before .args in
-    slope-fails (s .n) (s .b) (s .p) (s .slope) (s .curvature) (simp (sym (c .before .is-finite .ensures) ∙ not-true _ (c .if1 .taken)))
+    slope-fails (s .n) (s .breaks) (s .path) (s .slope) (s .curvature) (simp (sym (c .before .is-finite .ensures) ∙ not-true _ (c .if1 .taken)))
 
 returns-2 : tie.Need-returns-2
 returns-2 c =
     let f = c .before .before .before in
     let s = f .before .before .args in
-    slope-fails (s .n) (s .b) (s .p) (s .slope) (s .curvature)
+    slope-fails (s .n) (s .breaks) (s .path) (s .slope) (s .curvature)
     (simp (sym (f .is-finite .ensures) ∙ not-false _ (c .before .before .if1 .left), sym (c .before .is-finite2 .ensures) ∙ not-true _ (c .if2 .taken)))
 
 returns-3 : tie.Need-returns-3
@@ -24,7 +24,7 @@ returns-3 c =
     let t = c .before .before .before .before in
     let f = t .before .before .before in
     let s = f .before .before .before .before .args in
-    slope-ends (s .n) (s .b) (s .p) (s .slope) (s .curvature)
+    slope-ends (s .n) (s .breaks) (s .path) (s .slope) (s .curvature)
     (simp (
       sym (f .before .before .is-finite .ensures) ∙ not-false _ (f .before .if1 .left),
       sym (f .is-finite2 .ensures) ∙ not-false _ (t .before .before .if2 .left),
@@ -38,7 +38,7 @@ returns-4 c =
     let t = n .before .before .before in
     let f = t .before .before .before in
     let s = f .before .before .args in
-    slope-goes (s .n) (s .b) (s .p) (s .slope) (s .curvature)
+    slope-goes (s .n) (s .breaks) (s .path) (s .slope) (s .curvature)
     (simp (
       sym (f .is-finite .ensures) ∙ not-false _ (t .before .before .if1 .left),
       sym (t .before .is-finite2 .ensures) ∙ not-false _ (t .if2 .left),
@@ -50,7 +50,7 @@ returns-5 : tie.Need-returns-5
 returns-5 c =
     let t = c .before .before .before in
     let s = t .before .before .before .args in
-    slope-fails (s .n) (s .b) (s .p) (s .slope) (s .curvature)
+    slope-fails (s .n) (s .breaks) (s .path) (s .slope) (s .curvature)
     (simp (
       sym (t .before .is-finite .ensures) ∙ not-false _ (t .if1 .left),
       sym (c .before .before .is-finite2 .ensures) ∙ not-false _ (c .before .if2 .left),

@@ -7,10 +7,10 @@ use Rattle.cauchy.proofs.find_breaks.Statement.{statement}
 use Rattle.cauchy.proofs.find_breaks.Tie as tie
 
 abbrev Inv-loop : tie.InvT-loop
-Inv-loop area n b₀ i₀ b i = Finding n (view area n) i b
+Inv-loop area n breaks₀ i₀ breaks i = Finding n (view area n) i breaks
 
 abbrev μ-loop : tie.MeasureT-loop
-μ-loop area n b₀ i₀ b i = n - i
+μ-loop area n breaks₀ i₀ breaks i = n - i
 
 loop-holds : tie.Need-loop-holds Inv-loop μ-loop
 loop-holds c = finding-none (c .no-breaks .ensures .0) (c .no-breaks .ensures .1)

@@ -10,11 +10,11 @@ use Rattle.cauchy.proofs.generalized_cauchy.Statement.{statement}
 use Rattle.cauchy.proofs.generalized_cauchy.Tie as tie
 
 abbrev Inv-loop : tie.InvT-loop
-Inv-loop area₀ h theta found rows multipliers order b p₀ left₀ area p left =
-    Walking h theta b left₀ p₀ (view area₀ (h .n)) left p (view area (h .n)) × (length area ≡ length area₀)
+Inv-loop area₀ shape theta found rows multipliers order breaks path₀ remaining₀ area path remaining =
+    Walking shape theta breaks remaining₀ path₀ (view area₀ (shape .n)) remaining path (view area (shape .n)) × (length area ≡ length area₀)
 
 abbrev μ-loop : tie.MeasureT-loop
-μ-loop area₀ h theta found rows multipliers order b p₀ left₀ area p left = left
+μ-loop area₀ shape theta found rows multipliers order breaks path₀ remaining₀ area path remaining = remaining
 
 loop-holds : tie.Need-loop-holds Inv-loop μ-loop
 loop-holds c = (walking-none, refl)
@@ -30,31 +30,33 @@ segment-from-requires c κs =
       f .find-breaks .ensures .listed,
     )
 
-enum-known-s : tie.Need-enum-known-s Inv-loop μ-loop
-enum-known-s c = c .match .keys1
+enum-known-segment : tie.Need-enum-known-segment Inv-loop μ-loop
+enum-known-segment c = c .match .keys1
 
 returns : tie.Need-returns Inv-loop μ-loop
 returns c =
     let s = c .before .before .before .before .before in
     let b = s .before .before .before .before .before .before in
     walks _ _ (b .before .before .find-breaks .ensures) (b .begin-path .ensures)
-    (walking-ends (s .before .before .loop .inv .0) (s .segment-from .ensures) _ (c .before .s .given .1))
+    (walking-ends (s .before .before .loop .inv .0) (s .segment-from .ensures) _ (c .before .segment .given .1))
 
-enum-known-s-2 : tie.Need-enum-known-s-2 Inv-loop μ-loop
-enum-known-s-2 c = c .match .keys2
+enum-known-segment-2 : tie.Need-enum-known-segment-2 Inv-loop μ-loop
+enum-known-segment-2 c = c .match .keys2
 
 returns-2 : tie.Need-returns-2 Inv-loop μ-loop
 returns-2 c =
     let s = c .before .before .before .before .before .before in
     let b = s .before .before .before .before .before .before in
     walks _ _ (b .before .before .find-breaks .ensures) (b .begin-path .ensures)
-    (walking-stops (s .before .before .loop .inv .0) (s .segment-from .ensures) _ (c .before .before .s2 .given .1) (c .if1 .taken))
+    (walking-stops (s .before .before .loop .inv .0) (s .segment-from .ensures) _ (c .before .before .segment2 .given .1) (c .if1 .taken))
 
 loop-again : tie.Need-loop-again Inv-loop μ-loop
 loop-again c =
     let a = c .before .before .before .before .before in
-    let l = a .before .before .before in
-    (walking-more (l .loop .inv .0) (a .before .segment-from .ensures) _ (c .before .before .s2 .given .1) (c .if1 .left), a .area2 .given ∙ l .loop .inv .1)
+    let l = a .before .before .before in (
+      walking-more (l .loop .inv .0) (a .before .segment-from .ensures) _ (c .before .before .segment2 .given .1) (c .if1 .left),
+      a .area2 .given ∙ l .loop .inv .1,
+    )
 
 pub generalized-cauchy-spec : {M : Type 1} → statement M
 generalized-cauchy-spec =
@@ -67,10 +69,10 @@ generalized-cauchy-spec =
     (λ c. search needs)
     loop-holds
     segment-from-requires
-    enum-known-s
+    enum-known-segment
     (λ c. search needs)
     returns
-    enum-known-s-2
+    enum-known-segment-2
     (λ c. search needs)
     returns-2
     (λ c. search needs)

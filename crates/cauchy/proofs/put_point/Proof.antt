@@ -8,10 +8,10 @@ use Rattle.cauchy.proofs.put_point.Statement.{statement}
 use Rattle.cauchy.proofs.put_point.Tie as tie
 
 abbrev Inv-loop : tie.InvT-loop
-Inv-loop area₀ n to i₀ area i = Row area₀ n Cauchy (λ i w. pointIn w) area i
+Inv-loop area₀ n start i₀ area i = Row area₀ n Cauchy (λ i w. pointIn w) area i
 
 abbrev μ-loop : tie.MeasureT-loop
-μ-loop area₀ n to i₀ area i = n - i
+μ-loop area₀ n start i₀ area i = n - i
 
 loop-holds : tie.Need-loop-holds Inv-loop μ-loop
 loop-holds c = row-none (omega arith)

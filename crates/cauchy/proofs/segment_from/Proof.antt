@@ -11,14 +11,14 @@ returns : tie.Need-returns
 returns c =
     let t = c .before .before .before .before in
     let s = t .before .before .before .before .args in
-    segment-ends (s .h) (s .theta) (s .b) (s .p) (t .before .still .ensures) (t .if1 .taken) (c .before .before .point-on-path .ensures)
+    segment-ends (s .shape) (s .theta) (s .breaks) (s .path) (t .before .still .ensures) (t .if1 .taken) (c .before .before .point-on-path .ensures)
 
 returns-2 : tie.Need-returns-2
 returns-2 c =
     let p = c .before .before .before in
     let t = p .before .before .before in
     let s = t .before .before .before .args in
-    segment-fails₁ (s .h) (s .theta) (s .b) (s .p) (t .still .ensures) (p .before .before .if1 .left) (p .product .ensures) (c .if2 .taken)
+    segment-fails₁ (s .shape) (s .theta) (s .breaks) (s .path) (t .still .ensures) (p .before .before .if1 .left) (p .product .ensures) (c .if2 .taken)
 
 product-requires-2 : tie.Need-product-requires-2
 product-requires-2 c κs =
@@ -37,7 +37,7 @@ returns-3 c =
     let first = good .before .before .before in
     let moves = first .before .before in
     let s = moves .before .before .before .before .args in
-    segment-fails₂ (s .h) (s .theta) (s .b) (s .p) (moves .before .still .ensures) (moves .if1 .left) (first .product .ensures) (good .if2 .left)
+    segment-fails₂ (s .shape) (s .theta) (s .breaks) (s .path) (moves .before .still .ensures) (moves .if1 .left) (first .product .ensures) (good .if2 .left)
     (second .product2 .ensures) (c .if3 .taken)
 
 returns-4 : tie.Need-returns-4
@@ -50,7 +50,7 @@ returns-4 c =
     let first = good .before .before .before in
     let moves = first .before .before in
     let s = moves .before .before .before .before .args in
-    segment-goes (s .h) (s .theta) (s .b) (s .p) (moves .before .still .ensures) (moves .if1 .left) (first .product .ensures) (good .if2 .left)
+    segment-goes (s .shape) (s .theta) (s .breaks) (s .path) (moves .before .still .ensures) (moves .if1 .left) (first .product .ensures) (good .if2 .left)
     (second .product2 .ensures) (more .if3 .left) (slope .slope .ensures) (curvature .dot .ensures) (c .before .before .by-slope .ensures)
 
 pub segment-from-spec : {M : Type 1} → statement M

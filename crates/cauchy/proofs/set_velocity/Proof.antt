@@ -7,10 +7,10 @@ use Rattle.cauchy.proofs.set_velocity.Statement.{statement}
 use Rattle.cauchy.proofs.set_velocity.Tie as tie
 
 abbrev Inv-loop : tie.InvT-loop
-Inv-loop area₀ n to i₀ area i = Row area₀ n 8 (λ i w. velocityIn w) area i
+Inv-loop area₀ n start i₀ area i = Row area₀ n 8 (λ i w. velocityIn w) area i
 
 abbrev μ-loop : tie.MeasureT-loop
-μ-loop area₀ n to i₀ area i = n - i
+μ-loop area₀ n start i₀ area i = n - i
 
 loop-holds : tie.Need-loop-holds Inv-loop μ-loop
 loop-holds c = row-none (omega arith)

@@ -10,10 +10,10 @@ use Rattle.cauchy.proofs.still.Statement.{statement}
 use Rattle.cauchy.proofs.still.Tie as tie
 
 abbrev Inv-loop : tie.InvT-loop
-Inv-loop area n at ok₀ i₀ ok i = Folded area n true (λ i w b. b && Ieee.eq (w Velocity) zero64) ok i
+Inv-loop area n start ok₀ i₀ ok i = Folded area n true (λ i w b. b && Ieee.eq (w Velocity) zero64) ok i
 
 abbrev μ-loop : tie.MeasureT-loop
-μ-loop area n at ok₀ i₀ ok i = n - i
+μ-loop area n start ok₀ i₀ ok i = n - i
 
 loop-holds : tie.Need-loop-holds Inv-loop μ-loop
 loop-holds c = fold-none

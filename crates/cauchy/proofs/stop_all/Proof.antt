@@ -10,10 +10,10 @@ use Rattle.cauchy.proofs.stop_all.Statement.{statement}
 use Rattle.cauchy.proofs.stop_all.Tie as tie
 
 abbrev Inv-loop : tie.InvT-loop
-Inv-loop area₀ n b t list q₀ area q = Stopping b t q₀ (view area₀ n) q (view area n) × (length area ≡ length area₀)
+Inv-loop area₀ n breaks time list reached₀ area reached = Stopping breaks time reached₀ (view area₀ n) reached (view area n) × (length area ≡ length area₀)
 
 abbrev μ-loop : tie.MeasureT-loop
-μ-loop area₀ n b t list q₀ area q = b .count - q .event
+μ-loop area₀ n breaks time list reached₀ area reached = breaks .count - reached .event
 
 loop-holds : tie.Need-loop-holds Inv-loop μ-loop
 loop-holds c = (stopping-none, refl)

@@ -8,10 +8,10 @@ use Rattle.cauchy.proofs.travel.Statement.{statement}
 use Rattle.cauchy.proofs.travel.Tie as tie
 
 abbrev Inv-loop : tie.InvT-loop
-Inv-loop area₀ n t to from i₀ area i = Row area₀ n Displacement (λ i w. plus (w Displacement) (times t (w Velocity))) area i
+Inv-loop area₀ n time to-start from-start i₀ area i = Row area₀ n Displacement (λ i w. plus (w Displacement) (times time (w Velocity))) area i
 
 abbrev μ-loop : tie.MeasureT-loop
-μ-loop area₀ n t to from i₀ area i = n - i
+μ-loop area₀ n time to-start from-start i₀ area i = n - i
 
 loop-holds : tie.Need-loop-holds Inv-loop μ-loop
 loop-holds c = row-none (omega arith)

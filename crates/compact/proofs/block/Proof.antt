@@ -12,11 +12,12 @@ use Rattle.compact.proofs.block.Statement.{statement}
 use Rattle.compact.proofs.block.Tie as tie
 
 abbrev Inv-loop : tie.InvT-loop
-Inv-loop area h theta size z i₀ b i =
-    Padding zeroRow (2 * h .pairs) (λ (i : ℕ). padded zero64 (2 * h .pairs) (blockEntry (h .n) (compactOf h theta (view area (h .n))) i)) b i
+Inv-loop area shape theta size zero-row i₀ block i =
+    let entries = blockEntry (shape .n) (compactOf shape theta (view area (shape .n))) in
+    Padding zeroRow (2 * shape .pairs) (λ (i : ℕ). padded zero64 (2 * shape .pairs) (entries i)) block i
 
 abbrev μ-loop : tie.MeasureT-loop
-μ-loop area h theta size z i₀ b i = 2 * h .pairs - i
+μ-loop area shape theta size zero-row i₀ block i = 2 * shape .pairs - i
 
 loop-holds : tie.Need-loop-holds Inv-loop μ-loop
 loop-holds c = padding-none (omega arith) (ap (replicate 32) (c .zeros .ensures))

@@ -26,7 +26,7 @@ returns-4 : tie.Need-returns-4
 unfolding blockEntry
 returns-4 c =
     let a = c .before .before .before .before .args in
-    let k : a .h .pairs ≤ a .j = omega arith in
+    let k : a .shape .pairs ≤ a .j = omega arith in
     rw (pairs-count, le-ltb _ _ (c .before .if2 .left), le-ltb _ _ k) (ap (times _) (c .s-dot-s .ensures))
 
 pub block-entry-spec : {M : Type 1} → statement M

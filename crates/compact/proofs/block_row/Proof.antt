@@ -10,10 +10,11 @@ use Rattle.compact.proofs.block_row.Statement.{statement}
 use Rattle.compact.proofs.block_row.Tie as tie
 
 abbrev Inv-loop : tie.InvT-loop
-Inv-loop area h theta b i size r₀ j₀ r j = Padding zero64 (2 * h .pairs) (blockEntry (h .n) (compactOf h theta (view area (h .n))) i) r j
+Inv-loop area shape theta block i size row₀ j₀ row j =
+    Padding zero64 (2 * shape .pairs) (blockEntry (shape .n) (compactOf shape theta (view area (shape .n))) i) row j
 
 abbrev μ-loop : tie.MeasureT-loop
-μ-loop area h theta b i size r₀ j₀ r j = 2 * h .pairs - j
+μ-loop area shape theta block i size row₀ j₀ row j = 2 * shape .pairs - j
 
 loop-holds : tie.Need-loop-holds Inv-loop μ-loop
 loop-holds c = padding-none (omega arith) (c .zeros .ensures)

@@ -10,10 +10,10 @@ use Rattle.compact.proofs.lay_columns.Statement.{statement}
 use Rattle.compact.proofs.lay_columns.Tie as tie
 
 abbrev Inv-loop : tie.InvT-loop
-Inv-loop area₀ h theta size k₀ area k = Laying h theta (view area₀ (h .n)) (view area (h .n)) k × (length area ≡ length area₀)
+Inv-loop area₀ shape theta size column₀ area column = Laying shape theta (view area₀ (shape .n)) (view area (shape .n)) column × (length area ≡ length area₀)
 
 abbrev μ-loop : tie.MeasureT-loop
-μ-loop area₀ h theta size k₀ area k = 2 * h .pairs - k
+μ-loop area₀ shape theta size column₀ area column = 2 * shape .pairs - column
 
 loop-holds : tie.Need-loop-holds Inv-loop μ-loop
 loop-holds c = (laying-none, refl)

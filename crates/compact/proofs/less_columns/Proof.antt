@@ -11,10 +11,11 @@ use Rattle.compact.proofs.less_columns.Statement.{statement}
 use Rattle.compact.proofs.less_columns.Tie as tie
 
 abbrev Inv-loop : tie.InvT-loop
-Inv-loop area₀ h theta p q z size k₀ area k = Lessened h z p (view area₀ (h .n)) (view area (h .n)) k × (length area ≡ length area₀)
+Inv-loop area₀ shape theta to from weights size column₀ area column =
+    Lessened shape weights to (view area₀ (shape .n)) (view area (shape .n)) column × (length area ≡ length area₀)
 
 abbrev μ-loop : tie.MeasureT-loop
-μ-loop area₀ h theta p q z size k₀ area k = 2 * h .pairs - k
+μ-loop area₀ shape theta to from weights size column₀ area column = 2 * shape .pairs - column
 
 scale-requires : tie.Need-scale-requires Inv-loop μ-loop
 scale-requires c κs = (vector-room _ (c .before .before .before .pre .0) (omega arith), vector-room _ (c .before .before .before .pre .0) (omega arith))

@@ -13,11 +13,11 @@ use Rattle.compact.proofs.right_side.Statement.{statement}
 use Rattle.compact.proofs.right_side.Tie as tie
 
 abbrev Inv-loop : tie.InvT-loop
-Inv-loop area h theta q size r₀ k₀ r k =
-    Padding zero64 (2 * h .pairs) (λ k. columnDot (h .n) (compactOf h theta (view area (h .n))) k (view area (h .n) q)) r k
+Inv-loop area shape theta vector size right₀ column₀ right column =
+    Padding zero64 (2 * shape .pairs) (λ k. columnDot (shape .n) (compactOf shape theta (view area (shape .n))) k (view area (shape .n) vector)) right column
 
 abbrev μ-loop : tie.MeasureT-loop
-μ-loop area h theta q size r₀ k₀ r k = 2 * h .pairs - k
+μ-loop area shape theta vector size right₀ column₀ right column = 2 * shape .pairs - column
 
 loop-holds : tie.Need-loop-holds Inv-loop μ-loop
 loop-holds c = padding-none (omega arith) (c .zeros .ensures)
@@ -35,7 +35,7 @@ loop-again c =
     let s = c .before .before .before .before .before .before .before in
     let a = s .args in
     padding-more (c .before .before .before .loop .inv) (omega arith)
-    (c .dot .ensures ∙ laid-dot (s .pre .1) _ _ (view (now (a .area)) (a .h .n) (a .q)) (omega arith) (c .before .column-slot .ensures))
+    (c .dot .ensures ∙ laid-dot (s .pre .1) _ _ (view (now (a .area)) (a .shape .n) (a .vector)) (omega arith) (c .before .column-slot .ensures))
 
 returns : tie.Need-returns Inv-loop μ-loop
 returns c = rw pairs-count (padding-done (c .before .loop .inv) (omega arith))

@@ -9,8 +9,8 @@ use Rattle.compact.proofs.s_dot_y.Tie as tie
 returns : tie.Need-returns
 returns c =
     let a = c .before .before .before .before .args in
-    let v = view (now (a .area)) (a .h .n) in
-    dot-same (a .h .n) (c .dot .ensures) (c .before .before .pair-slot .ensures .s v) (c .before .pair-slot2 .ensures .y v)
+    let v = view (now (a .area)) (a .shape .n) in
+    dot-same (a .shape .n) (c .dot .ensures) (c .before .before .pair-slot .ensures .s v) (c .before .pair-slot2 .ensures .y v)
 
 pub s-dot-y-spec : {M : Type 1} → statement M
 s-dot-y-spec = tie.close (tie.spec (λ c κs. search needs) (λ c κs. search needs) (λ c. search needs) (λ c κs. search needs) returns)

@@ -11,10 +11,10 @@ use Rattle.solve.proofs.all_finite.Statement.{statement}
 use Rattle.solve.proofs.all_finite.Tie as tie
 
 abbrev Inv-loop : tie.InvT-loop
-Inv-loop v n at₀ at = Looped n (λ i b. b && finite (word v i)) true true at
+Inv-loop values n at₀ at = Looped n (λ i b. b && finite (word values i)) true true at
 
 abbrev μ-loop : tie.MeasureT-loop
-μ-loop v n at₀ at = n - at
+μ-loop values n at₀ at = n - at
 
 loop-holds : tie.Need-loop-holds Inv-loop μ-loop
 loop-holds c = looped-none

@@ -9,10 +9,10 @@ use Rattle.solve.proofs.backward.Statement.{statement}
 use Rattle.solve.proofs.backward.Tie as tie
 
 abbrev Inv-loop : tie.InvT-loop
-Inv-loop a n b x₀ d₀ x d = Looped n (λ d x. backRow n (system a b) (n - (d + 1)) x) (replicate (length b) zero64) x d
+Inv-loop matrix n right x₀ done₀ x done = Looped n (λ d x. backRow n (system matrix right) (n - (d + 1)) x) (replicate (length right) zero64) x done
 
 abbrev μ-loop : tie.MeasureT-loop
-μ-loop a n b x₀ d₀ x d = n - d
+μ-loop matrix n right x₀ done₀ x done = n - done
 
 loop-holds : tie.Need-loop-holds Inv-loop μ-loop
 unfolding ofBits

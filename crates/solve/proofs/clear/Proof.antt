@@ -15,12 +15,12 @@ use Rattle.solve.proofs.clear.Statement.{statement}
 use Rattle.solve.proofs.clear.Tie as tie
 
 abbrev Inv-loop : tie.InvT-loop
-Inv-loop x₀ multipliers n k rows v d₀ x d =
-    (v ≡ word x k)
-    × Looped (n - (k + 1)) (λ d b. set b (k + 1 + d) (minus (word b (k + 1 + d)) (times (word (row multipliers k) (k + 1 + d)) (word b k)))) x₀ x d
+Inv-loop x₀ multipliers n k rows value past₀ x past =
+    (value ≡ word x k)
+    × Looped (n - (k + 1)) (λ d b. set b (k + 1 + d) (minus (word b (k + 1 + d)) (times (word (row multipliers k) (k + 1 + d)) (word b k)))) x₀ x past
 
 abbrev μ-loop : tie.MeasureT-loop
-μ-loop x₀ multipliers n k rows v d₀ x d = rows - d
+μ-loop x₀ multipliers n k rows value past₀ x past = rows - past
 
 loop-holds : tie.Need-loop-holds Inv-loop μ-loop
 loop-holds c = (refl, looped-none)
@@ -30,7 +30,7 @@ loop-again c =
     let l = c .before .before .before in
     let a = l .before .before .args in
     let x = l .loop .x in
-    let i = a .k + 1 + l .loop .d in (
+    let i = a .k + 1 + l .loop .past in (
       l .loop .inv .0 ∙ sym (getD-set-other x i (a .k) _ nan (λ q. omega arith)),
       looped-more (l .loop .inv .1) (omega arith)
           (ap (λ (w : Float). set x i (minus (word x i) (times (word (row (now (a .multipliers)) (a .k)) i) w))) (l .loop .inv .0)),

@@ -13,8 +13,8 @@ returns c =
     let p = w .before .before in
     let a = p .before .before .args in (
       p .pivot .ensures .0,
-      cleared (a .n) (a .scale) (a .k) (now (a .a)) (p .pivot .ensures .1) (w .swap-rows .ensures) (sym (i .pivots .ensures) ∙ c .before .before .if1 .taken)
-          (c .eliminate .ensures),
+      cleared (a .n) (a .scale) (a .k) (now (a .matrix)) (p .pivot .ensures .1) (w .swap-rows .ensures)
+          (sym (i .pivots .ensures) ∙ c .before .before .if1 .taken) (c .eliminate .ensures),
     )
 
 returns-2 : tie.Need-returns-2
@@ -23,7 +23,7 @@ returns-2 c =
     let p = w .before .before in
     let a = p .before .before .args in (
       p .pivot .ensures .0,
-      stuck (a .n) (a .scale) (a .k) (now (a .a)) (p .pivot .ensures .1) (w .swap-rows .ensures) _ _ (sym (c .before .pivots .ensures) ∙ c .if1 .left),
+      stuck (a .n) (a .scale) (a .k) (now (a .matrix)) (p .pivot .ensures .1) (w .swap-rows .ensures) _ _ (sym (c .before .pivots .ensures) ∙ c .if1 .left),
     )
 
 pub column-spec : {M : Type 1} → statement M

@@ -9,10 +9,10 @@ use Rattle.solve.proofs.eliminate.Statement.{statement}
 use Rattle.solve.proofs.eliminate.Tie as tie
 
 abbrev Inv-loop : tie.InvT-loop
-Inv-loop a₀ n k rows p m₀ d₀ a m d = Eliminating n k a₀ m a d × (row a k ≡ p)
+Inv-loop matrix₀ n k rows top multipliers₀ past₀ matrix multipliers past = Eliminating n k matrix₀ multipliers matrix past × (row matrix k ≡ top)
 
 abbrev μ-loop : tie.MeasureT-loop
-μ-loop a₀ n k rows p m₀ d₀ a m d = rows - d
+μ-loop matrix₀ n k rows top multipliers₀ past₀ matrix multipliers past = rows - past
 
 loop-holds : tie.Need-loop-holds Inv-loop μ-loop
 loop-holds c = (eliminating-none refl, refl)

@@ -8,10 +8,10 @@ use Rattle.solve.proofs.less_row.Statement.{statement}
 use Rattle.solve.proofs.less_row.Tie as tie
 
 abbrev Inv-loop : tie.InvT-loop
-Inv-loop a₀ p n f k i columns d₀ a d = Lessening n f k i p a₀ a d
+Inv-loop matrix₀ top n multiplier k i columns past₀ matrix past = Lessening n multiplier k i top matrix₀ matrix past
 
 abbrev μ-loop : tie.MeasureT-loop
-μ-loop a₀ p n f k i columns d₀ a d = columns - d
+μ-loop matrix₀ top n multiplier k i columns past₀ matrix past = columns - past
 
 loop-holds : tie.Need-loop-holds Inv-loop μ-loop
 loop-holds c = lessening-none (c .pre .3)

@@ -15,12 +15,12 @@ one-below true h l = h
 one-below false h l = l
 
 abbrev Inv-loop : tie.InvT-loop
-Inv-loop a n k rows size best₀ d₀ best d =
-    (best .row < n) × (best .size ≡ toWord (abs (entry a (best .row) k)))
-    × Looped (n - (k + 1)) (λ d best. cond (magnitudeLe (entry a best k) (entry a (k + 1 + d) k)) (k + 1 + d) best) k (best .row) d
+Inv-loop matrix n k rows size best₀ past₀ best past =
+    (best .row < n) × (best .size ≡ toWord (abs (entry matrix (best .row) k)))
+    × Looped (n - (k + 1)) (λ past best. cond (magnitudeLe (entry matrix best k) (entry matrix (k + 1 + past) k)) (k + 1 + past) best) k (best .row) past
 
 abbrev μ-loop : tie.MeasureT-loop
-μ-loop a n k rows size best₀ d₀ best d = rows - d
+μ-loop matrix n k rows size best₀ past₀ best past = rows - past
 
 loop-holds : tie.Need-loop-holds Inv-loop μ-loop
 loop-holds c = (omega arith, c .float-to-word .ensures ∙ ap toWord (c .before .abs .ensures), looped-none)
@@ -29,8 +29,8 @@ loop-again : tie.Need-loop-again Inv-loop μ-loop
 loop-again c =
     let l = c .before .before in
     let a = l .before .before .before .before .args in
-    let i = a .k + 1 + l .loop .d in
-    let t = magnitudeLe (entry (now (a .a)) (l .loop .best .row) (a .k)) (entry (now (a .a)) i (a .k)) in (
+    let i = a .k + 1 + l .loop .past in
+    let t = magnitudeLe (entry (now (a .matrix)) (l .loop .best .row) (a .k)) (entry (now (a .matrix)) i (a .k)) in (
       rw (c .larger .ensures .0) (one-below t {i = i} (omega arith) (l .loop .inv .0)),
       c .larger .ensures .1,
       looped-more (l .loop .inv .2) (omega arith) (c .larger .ensures .0),

@@ -11,10 +11,10 @@ use Rattle.solve.proofs.row_scale.Statement.{statement}
 use Rattle.solve.proofs.row_scale.Tie as tie
 
 abbrev Inv-loop : tie.InvT-loop
-Inv-loop a n i most m₀ j₀ m j = (isNan m ≡ false) × Looped n (λ j m. max m (abs (entry a i j))) most m j
+Inv-loop matrix n i most largest₀ j₀ largest j = (isNan largest ≡ false) × Looped n (λ j m. max m (abs (entry matrix i j))) most largest j
 
 abbrev μ-loop : tie.MeasureT-loop
-μ-loop a n i most m₀ j₀ m j = n - j
+μ-loop matrix n i most largest₀ j₀ largest j = n - j
 
 loop-holds : tie.Need-loop-holds Inv-loop μ-loop
 loop-holds c = (c .pre .2, looped-none)

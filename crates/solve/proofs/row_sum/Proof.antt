@@ -9,10 +9,11 @@ use Rattle.solve.proofs.row_sum.Statement.{statement}
 use Rattle.solve.proofs.row_sum.Tie as tie
 
 abbrev Inv-loop : tie.InvT-loop
-Inv-loop a x n i columns sum₀ d₀ sum d = Looped (n - (i + 1)) (λ d s. plus s (times (entry a i (i + 1 + d)) (word x (i + 1 + d)))) negZero sum d
+Inv-loop matrix x n i columns sum₀ past₀ sum past =
+    Looped (n - (i + 1)) (λ d s. plus s (times (entry matrix i (i + 1 + d)) (word x (i + 1 + d)))) negZero sum past
 
 abbrev μ-loop : tie.MeasureT-loop
-μ-loop a x n i columns sum₀ d₀ sum d = columns - d
+μ-loop matrix x n i columns sum₀ past₀ sum past = columns - past
 
 loop-holds : tie.Need-loop-holds Inv-loop μ-loop
 unfolding ofBits

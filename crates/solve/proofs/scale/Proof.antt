@@ -13,10 +13,10 @@ use Rattle.solve.proofs.scale.Statement.{statement}
 use Rattle.solve.proofs.scale.Tie as tie
 
 abbrev Inv-loop : tie.InvT-loop
-Inv-loop a n most₀ i₀ most i = (isNan most ≡ false) × Looped n (λ i most. foldTo n (λ j m. max m (abs (entry a i j))) most) zero64 most i
+Inv-loop matrix n most₀ i₀ most i = (isNan most ≡ false) × Looped n (λ i most. foldTo n (λ j m. max m (abs (entry matrix i j))) most) zero64 most i
 
 abbrev μ-loop : tie.MeasureT-loop
-μ-loop a n most₀ i₀ most i = n - i
+μ-loop matrix n most₀ i₀ most i = n - i
 
 loop-holds : tie.Need-loop-holds Inv-loop μ-loop
 unfolding isNan

@@ -8,10 +8,10 @@ use Rattle.solve.proofs.triangular.Statement.{statement}
 use Rattle.solve.proofs.triangular.Tie as tie
 
 abbrev Inv-loop : tie.InvT-loop
-Inv-loop a₀ multipliers₀ order₀ n scale k₀ a multipliers order k = Columns n scale a₀ a multipliers order k
+Inv-loop matrix₀ multipliers₀ order₀ n scale k₀ matrix multipliers order k = Columns n scale matrix₀ matrix multipliers order k
 
 abbrev μ-loop : tie.MeasureT-loop
-μ-loop a₀ multipliers₀ order₀ n scale k₀ a multipliers order k = n - k
+μ-loop matrix₀ multipliers₀ order₀ n scale k₀ matrix multipliers order k = n - k
 
 loop-holds : tie.Need-loop-holds Inv-loop μ-loop
 loop-holds c = columns-none (c .pre .1) (c .pre .2)

@@ -8,10 +8,10 @@ use Rattle.subspace.proofs.add_column.Statement.{statement}
 use Rattle.subspace.proofs.add_column.Tie as tie
 
 abbrev Inv-loop : tie.InvT-loop
-Inv-loop area₀ n q w i₀ area i = Row area₀ n Step (λ i v. plus (v Step) (times (v q) w)) area i
+Inv-loop area₀ n from factor i₀ area i = Row area₀ n Step (λ i v. plus (v Step) (times (v from) factor)) area i
 
 abbrev μ-loop : tie.MeasureT-loop
-μ-loop area₀ n q w i₀ area i = n - i
+μ-loop area₀ n from factor i₀ area i = n - i
 
 loop-holds : tie.Need-loop-holds Inv-loop μ-loop
 loop-holds c = row-none (omega arith)

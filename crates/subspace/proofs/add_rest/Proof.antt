@@ -7,10 +7,10 @@ use Rattle.subspace.proofs.add_rest.Statement.{statement}
 use Rattle.subspace.proofs.add_rest.Tie as tie
 
 abbrev Inv-loop : tie.InvT-loop
-Inv-loop a₀ size p count t₀ a t = Looped count (λ t b. each size (productTo (row p t)) b) a₀ a t
+Inv-loop sums₀ size batch count k₀ sums k = Looped count (λ k b. each size (productTo (row batch k)) b) sums₀ sums k
 
 abbrev μ-loop : tie.MeasureT-loop
-μ-loop a₀ size p count t₀ a t = count - t
+μ-loop sums₀ size batch count k₀ sums k = count - k
 
 loop-holds : tie.Need-loop-holds Inv-loop μ-loop
 loop-holds c = looped-none

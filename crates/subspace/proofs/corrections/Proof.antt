@@ -11,10 +11,11 @@ use Rattle.subspace.proofs.corrections.Statement.{statement}
 use Rattle.subspace.proofs.corrections.Tie as tie
 
 abbrev Inv-loop : tie.InvT-loop
-Inv-loop area₀ h theta z size k₀ area k = Added h z (view area₀ (h .n)) (view area (h .n)) k × (length area ≡ length area₀)
+Inv-loop area₀ shape theta weights size column₀ area column =
+    Added shape weights (view area₀ (shape .n)) (view area (shape .n)) column × (length area ≡ length area₀)
 
 abbrev μ-loop : tie.MeasureT-loop
-μ-loop area₀ h theta z size k₀ area k = 2 * h .pairs - k
+μ-loop area₀ shape theta weights size column₀ area column = 2 * shape .pairs - column
 
 loop-holds : tie.Need-loop-holds Inv-loop μ-loop
 loop-holds c = (added-none _ (rw neg-zero-is at (c .before .before .fill .ensures)), refl)

@@ -11,10 +11,10 @@ use Rattle.subspace.proofs.difference.Statement.{statement}
 use Rattle.subspace.proofs.difference.Tie as tie
 
 abbrev Inv-loop : tie.InvT-loop
-Inv-loop to from n d₀ i₀ d i = Filled mostCoordinates (length to) (λ i. minus (word to i) (word from i)) d i
+Inv-loop left right n result₀ i₀ result i = Filled mostCoordinates (length left) (λ i. minus (word left i) (word right i)) result i
 
 abbrev μ-loop : tie.MeasureT-loop
-μ-loop to from n d₀ i₀ d i = length to - i
+μ-loop left right n result₀ i₀ result i = length left - i
 
 loop-holds : tie.Need-loop-holds Inv-loop μ-loop
 loop-holds c = filled-none (omega arith) (c .zeros .ensures)

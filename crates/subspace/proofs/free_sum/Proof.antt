@@ -11,10 +11,10 @@ use Rattle.subspace.proofs.free_sum.Statement.{statement}
 use Rattle.subspace.proofs.free_sum.Tie as tie
 
 abbrev Inv-loop : tie.InvT-loop
-Inv-loop area n p q s₀ i₀ s i = Folded area n negZero (λ i. freeTerm p q) s i
+Inv-loop area n left right sum₀ i₀ sum i = Folded area n negZero (λ i. freeTerm left right) sum i
 
 abbrev μ-loop : tie.MeasureT-loop
-μ-loop area n p q s₀ i₀ s i = n - i
+μ-loop area n left right sum₀ i₀ sum i = n - i
 
 loop-holds : tie.Need-loop-holds Inv-loop μ-loop
 loop-holds c = rw neg-zero-is fold-none

@@ -11,10 +11,10 @@ use Rattle.subspace.proofs.gather.Statement.{statement}
 use Rattle.subspace.proofs.gather.Tie as tie
 
 abbrev Inv-loop : tie.InvT-loop
-Inv-loop area h k size r₀ j₀ r j = Padding zero64 (2 * h .pairs) (λ j. wordsAt area (h .n) k (columnSlot h j)) r j
+Inv-loop area shape i size row₀ j₀ row j = Padding zero64 (2 * shape .pairs) (λ j. wordsAt area (shape .n) i (columnSlot shape j)) row j
 
 abbrev μ-loop : tie.MeasureT-loop
-μ-loop area h k size r₀ j₀ r j = 2 * h .pairs - j
+μ-loop area shape i size row₀ j₀ row j = 2 * shape .pairs - j
 
 loop-holds : tie.Need-loop-holds Inv-loop μ-loop
 loop-holds c = padding-none (omega arith) (c .zeros .ensures)
@@ -29,7 +29,7 @@ loop-again : tie.Need-loop-again Inv-loop μ-loop
 loop-again c =
     let a = c .before .before .before .before .before .before .before .args in
     padding-more (c .before .before .before .loop .inv) (omega arith)
-    (c .get .ensures ∙ ap (wordsAt (now (a .area)) (a .h .n) (a .k)) (c .before .column-slot .ensures))
+    (c .get .ensures ∙ ap (wordsAt (now (a .area)) (a .shape .n) (a .i)) (c .before .column-slot .ensures))
 
 returns : tie.Need-returns Inv-loop μ-loop
 returns c = search laws

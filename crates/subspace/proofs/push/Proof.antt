@@ -10,16 +10,16 @@ returns : tie.Need-returns
 returns c =
     let s = c .before .before .before in
     let g = s .args in
-    push-none (g .h) (wordsAt (now (g .area)) (g .h .n) (g .k)) (now (g .p)) (g .count) (now (g .a)) _ (c .before .is-free .ensures) (c .if1 .taken) (s .pre .2)
+    push-none (g .shape) (wordsAt (now (g .area)) (g .shape .n) (g .i)) (now (g .batch)) (g .count) (now (g .sums)) _
+    (c .before .is-free .ensures) (c .if1 .taken) (s .pre .2)
 
 returns-2 : tie.Need-returns-2
 returns-2 c =
     let e = c .before .before in
     let s = e .before .before .before in
     let g = s .args in
-    push-more (g .h) (wordsAt (now (g .area)) (g .h .n) (g .k)) (now (g .p)) (g .count) (now (g .a)) _ _ (e .before .is-free .ensures) (e .if1 .left)
-    (c .before .gather .ensures) (s .pre .2)
-    (c .if2 .taken)
+    push-more (g .shape) (wordsAt (now (g .area)) (g .shape .n) (g .i)) (now (g .batch)) (g .count) (now (g .sums)) _ _
+    (e .before .is-free .ensures) (e .if1 .left) (c .before .gather .ensures) (s .pre .2) (c .if2 .taken)
 
 returns-3 : tie.Need-returns-3
 returns-3 c =
@@ -27,9 +27,8 @@ returns-3 c =
     let e = d .before .before in
     let s = e .before .before .before in
     let g = s .args in
-    push-four (g .h) (wordsAt (now (g .area)) (g .h .n) (g .k)) (now (g .p)) (g .count) (now (g .a)) _ _ _ (e .before .is-free .ensures) (e .if1 .left)
-    (d .before .gather .ensures) (s .pre .2)
-    (d .if2 .left) (c .add-fours .ensures)
+    push-four (g .shape) (wordsAt (now (g .area)) (g .shape .n) (g .i)) (now (g .batch)) (g .count) (now (g .sums)) _ _ _
+    (e .before .is-free .ensures) (e .if1 .left) (d .before .gather .ensures) (s .pre .2) (d .if2 .left) (c .add-fours .ensures)
 
 pub push-spec : {M : Type 1} → statement M
 push-spec =

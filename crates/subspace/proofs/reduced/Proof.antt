@@ -9,10 +9,10 @@ use Rattle.subspace.proofs.reduced.Statement.{statement}
 use Rattle.subspace.proofs.reduced.Tie as tie
 
 abbrev Inv-loop : tie.InvT-loop
-Inv-loop area theta block size a₀ i₀ a i = Looped size (λ i c. rowEach size (reducedBy theta block i) i c) a₀ a i
+Inv-loop area theta block size matrix₀ i₀ matrix i = Looped size (λ i c. rowEach size (reducedBy theta block i) i c) matrix₀ matrix i
 
 abbrev μ-loop : tie.MeasureT-loop
-μ-loop area theta block size a₀ i₀ a i = size - i
+μ-loop area theta block size matrix₀ i₀ matrix i = size - i
 
 loop-holds : tie.Need-loop-holds Inv-loop μ-loop
 loop-holds c = looped-none

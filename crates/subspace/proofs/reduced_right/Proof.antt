@@ -6,21 +6,21 @@ use Rattle.definition.specs.Number.{zero64, times}
 use Rattle.definition.specs.Vector.{word}
 use Rattle.definition.specs.Compact.{columnWord}
 use Rattle.definition.specs.Geometry.{freeSum}
-use Rattle.area.specs.Area.{view, Cauchy, ProductD}
+use Rattle.area.specs.Area.{view, boundsOf, Cauchy, ProductD}
 use Rattle.compact.specs.State.{compactOf}
 use Rattle.compact.proofs.Laws.{Padding, padding-none, padding-more, padding-done, pairs-count, vector-room, laws}
-use Rattle.subspace.specs.State.{boundsOf}
 use Rattle.subspace.proofs.Laws.{right-is}
 use Rattle.subspace.proofs.reduced_right.Statement.{statement}
 use Rattle.subspace.proofs.reduced_right.Tie as tie
 
 abbrev Inv-loop : tie.InvT-loop
-Inv-loop area h theta size r₀ i₀ r i =
-    let v = view area (h .n) in
-    Padding zero64 (2 * h .pairs) (λ i. freeSum (h .n) (boundsOf v) (v Cauchy) (λ k. times (columnWord (compactOf h theta v) i k) (word (v ProductD) k))) r i
+Inv-loop area shape theta size right₀ i₀ right i =
+    let v = view area (shape .n) in
+    Padding zero64 (2 * shape .pairs)
+    (λ i. freeSum (shape .n) (boundsOf v) (v Cauchy) (λ k. times (columnWord (compactOf shape theta v) i k) (word (v ProductD) k))) right i
 
 abbrev μ-loop : tie.MeasureT-loop
-μ-loop area h theta size r₀ i₀ r i = 2 * h .pairs - i
+μ-loop area shape theta size right₀ i₀ right i = 2 * shape .pairs - i
 
 loop-holds : tie.Need-loop-holds Inv-loop μ-loop
 loop-holds c = padding-none (omega arith) (c .zeros .ensures)

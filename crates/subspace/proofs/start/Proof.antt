@@ -10,10 +10,10 @@ use Rattle.subspace.proofs.start.Statement.{statement}
 use Rattle.subspace.proofs.start.Tie as tie
 
 abbrev Inv-loop : tie.InvT-loop
-Inv-loop size r z i₀ a i = Padding zeroRow size (λ i. padded zero64 size (λ j. negZero)) a i
+Inv-loop size row zero-row i₀ sums i = Padding zeroRow size (λ i. padded zero64 size (λ j. negZero)) sums i
 
 abbrev μ-loop : tie.MeasureT-loop
-μ-loop size r z i₀ a i = size - i
+μ-loop size row zero-row i₀ sums i = size - i
 
 loop-holds : tie.Need-loop-holds Inv-loop μ-loop
 loop-holds c = padding-none (omega arith) (ap (replicate 32) (c .zeros .ensures))

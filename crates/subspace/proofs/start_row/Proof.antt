@@ -8,10 +8,10 @@ use Rattle.subspace.proofs.start_row.Statement.{statement}
 use Rattle.subspace.proofs.start_row.Tie as tie
 
 abbrev Inv-loop : tie.InvT-loop
-Inv-loop size r₀ j₀ r j = Padding zero64 size (λ j. negZero) r j
+Inv-loop size row₀ j₀ row j = Padding zero64 size (λ j. negZero) row j
 
 abbrev μ-loop : tie.MeasureT-loop
-μ-loop size r₀ j₀ r j = size - j
+μ-loop size row₀ j₀ row j = size - j
 
 loop-holds : tie.Need-loop-holds Inv-loop μ-loop
 loop-holds c = padding-none (omega arith) (c .zeros .ensures)

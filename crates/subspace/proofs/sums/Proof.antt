@@ -14,11 +14,12 @@ use Rattle.subspace.proofs.sums.Statement.{statement}
 use Rattle.subspace.proofs.sums.Tie as tie
 
 abbrev Inv-loop : tie.InvT-loop
-Inv-loop area h a₀ p₀ count₀ k₀ a p count k =
-    Folded area (h .n) (grid (2 * h .pairs) (λ i j. negZero)) (λ k. addFree h) (addRows (2 * h .pairs) p count a) k × Held (2 * h .pairs) p count a
+Inv-loop area shape sums₀ batch₀ count₀ i₀ sums batch count i =
+    Folded area (shape .n) (grid (2 * shape .pairs) (λ i j. negZero)) (λ i. addFree shape) (addRows (2 * shape .pairs) batch count sums) i
+    × Held (2 * shape .pairs) batch count sums
 
 abbrev μ-loop : tie.MeasureT-loop
-μ-loop area h a₀ p₀ count₀ k₀ a p count k = h .n - k
+μ-loop area shape sums₀ batch₀ count₀ i₀ sums batch count i = shape .n - i
 
 loop-holds : tie.Need-loop-holds Inv-loop μ-loop
 unfolding foldTo
@@ -41,7 +42,7 @@ returns : tie.Need-returns Inv-loop μ-loop
 returns c =
     let l = c .before .before .before .before .before .before in
     let g = l .before .before .before .before .before .args in
-    c .add-rest .ensures ∙ fold-done (l .loop .inv .0) (omega arith) ∙ sums-are (g .h) (g .h .n) (view (now (g .area)) (g .h .n))
+    c .add-rest .ensures ∙ fold-done (l .loop .inv .0) (omega arith) ∙ sums-are (g .shape) (g .shape .n) (view (now (g .area)) (g .shape .n))
 
 pub sums-spec : {M : Type 1} → statement M
 sums-spec =

@@ -13,8 +13,8 @@ returns : tie.Need-returns
 returns c =
     let r = c .before .before .before in
     let a = r .before .before .args in
-    let v = view (now (a .area)) (a .h .n) in
-    c .solve .ensures ∙ (λ k. solve (2 * sym (pairs-count (a .h) v) k) (r .reduced .ensures k) (c .before .before .reduced-right .ensures k))
+    let v = view (now (a .area)) (a .shape .n) in
+    c .solve .ensures ∙ (λ k. solve (2 * sym (pairs-count (a .shape) v) k) (r .reduced .ensures k) (c .before .before .reduced-right .ensures k))
 
 pub weights-spec : {M : Type 1} → statement M
 weights-spec = tie.close (tie.spec (λ c κs. search needs) (λ c κs. search needs) (λ c. search needs) (λ c κs. search needs) returns)
