@@ -58,7 +58,8 @@ pub fn check_start(
 
 // The fit of a setup that passed, at its first question: no entry is in the log.
 pub fn opened(options: Options, area: &mut [f64], x0: &[f64], lower: &[f64], upper: &[f64]) -> Fit
-    requires { ⌜ (let s = setupIn options (now x0) (now lower) (now upper) in (validate s then checkArea (record { area = length (now area); log = 0 }) s) ≡ none) ⌝ }
+    requires { ⌜ (let s = setupIn options (now x0) (now lower) (now upper) in
+        (validate s then checkArea (record { area = length (now area); log = 0 }) s) ≡ none) ⌝ }
     ensures { λ f. ⌜ ((l : List ℕ)
         → Held (words f (now (area .exit)) l) (openedBook (setupIn options (now (x0 .entry)) (now (lower .entry)) (now (upper .entry))))) ⌝ }
 {

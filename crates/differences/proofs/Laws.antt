@@ -106,7 +106,8 @@ pub record Passed (q : Probing) (t : Fit) (i : ℕ) (a b : List Float) (j : ℕ)
   pub upto : j ≤ t .shape .n
   pub long : length b ≡ length a
   pub saved : Saved (view a (t .shape .n)) (view b (t .shape .n))
-  pub is : (w : M.Place) (p : Phase) → probeFrom (t .shape .n - j) w j (machineOf (numbered p q t) b) ≡ probeFrom (t .shape .n - i) w i (machineOf (numbered p q t) a)
+  pub is : (w : M.Place) (p : Phase)
+      → probeFrom (t .shape .n - j) w j (machineOf (numbered p q t) b) ≡ probeFrom (t .shape .n - i) w i (machineOf (numbered p q t) a)
 
 pub passed-none : {q : Probing} {t : Fit} {i : ℕ} {a : List Float} → i ≤ t .shape .n → Passed q t i a a i
 passed-none h = record { upto = h; long = refl; saved = saved-refl; is = λ w p. refl }

@@ -82,7 +82,8 @@ module _ (q : Probing) (t : Fit) (i : ℕ) (side : Side) where
 
 -- what ends the fit, by what F does to these machines
 pub ended-leads : {F : M.Place → Machine → Machine} (q : Probing) (t : Fit) (why : Termination) (a : List Float)
-    → ((w : Place) (p : Phase) (m : Machine) → m ≡ machineOf (numbered p q t) a → M.ending (terminationOf why) m ≡ F (placeOf w) m) → LeadsTo F q t a (Ended q why) a
+    → ((w : Place) (p : Phase) (m : Machine) → m ≡ machineOf (numbered p q t) a → M.ending (terminationOf why) m ≡ F (placeOf w) m)
+    → LeadsTo F q t a (Ended q why) a
 ended-leads {F} q t why a e = record {
   asks = tt;
   nit = refl;

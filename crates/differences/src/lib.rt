@@ -169,7 +169,8 @@ fn both_probed(
     area: &mut [f64],
 ) -> Next
     requires { ⌜ Sound (fit .shape) (length (now area)) × (numbers .i < fit .shape .n) ⌝ }
-    ensures { λ r. ⌜ LeadsTo (λ w. probedOf w (numbers .i) (both right left) (sideOf (numbers .side)) value) numbers fit (now (area .entry)) r (now (area .exit)) ⌝ }
+    ensures { λ r. ⌜ LeadsTo (λ w. probedOf w (numbers .i) (both right left) (sideOf (numbers .side)) value) numbers fit
+        (now (area .entry)) r (now (area .exit)) ⌝ }
 {
     let side = numbers.side;
     match side {
@@ -188,7 +189,8 @@ fn both_probed(
 // The finite value at a probe, by what is probed.
 fn probed(fit: Fit, numbers: Probing, probes: Probes, value: f64, area: &mut [f64]) -> Next
     requires { ⌜ Sound (fit .shape) (length (now area)) × (numbers .i < fit .shape .n) ⌝ }
-    ensures { λ r. ⌜ LeadsTo (λ w. probedOf w (numbers .i) (probesIn probes) (sideOf (numbers .side)) value) numbers fit (now (area .entry)) r (now (area .exit)) ⌝ }
+    ensures { λ r. ⌜ LeadsTo (λ w. probedOf w (numbers .i) (probesIn probes) (sideOf (numbers .side)) value) numbers fit
+        (now (area .entry)) r (now (area .exit)) ⌝ }
 {
     let x = area[area::TRIAL * fit.shape.n + numbers.i];
     match probes {
@@ -212,7 +214,8 @@ fn probed(fit: Fit, numbers: Probing, probes: Probes, value: f64, area: &mut [f6
 // From a value at a probe to what follows. A value that is not finite ends the fit.
 pub fn next_probe(fit: Fit, numbers: Probing, value: f64, area: &mut [f64]) -> Next
     requires { ⌜ Sound (fit .shape) (length (now area)) × (numbers .i < fit .shape .n) ⌝ }
-    ensures { λ r. ⌜ LeadsTo (λ w. onProbe w (numbers .i) (sideOf (numbers .side)) value) numbers fit (now (area .entry)) r (now (area .exit)) ⌝ }
+    ensures { λ r. ⌜ LeadsTo (λ w. onProbe w (numbers .i) (sideOf (numbers .side)) value) numbers fit
+        (now (area .entry)) r (now (area .exit)) ⌝ }
 {
     if !float::is_finite(value) {
         return Next::Ended(numbers, Termination::Nonfinite);

@@ -57,7 +57,8 @@ pub probe-as : (w : M.Place) (i : ℕ) (d : M.Side) (m : M.Machine) {x y : Float
 probe-as w i d m e = rw e
 
 -- no gradient is asked
-pub no-gradient : (t : Fit) (a : List Float) (s : Bool) → OneOf (0 ∷ 2 ∷ 3 ∷ 4 ∷ []) (tagOf the-type (t .phase)) → Steps (advanced (cond s R.Gradient R.NotSupplied)) t a t a
+pub no-gradient : (t : Fit) (a : List Float) (s : Bool) → OneOf (0 ∷ 2 ∷ 3 ∷ 4 ∷ []) (tagOf the-type (t .phase))
+    → Steps (advanced (cond s R.Gradient R.NotSupplied)) t a t a
 no-gradient t a s o = go s (t .phase) refl o
   where
     go : (s : Bool) (p : Phase) → t .phase ≡ p → OneOf (0 ∷ 2 ∷ 3 ∷ 4 ∷ []) (tagOf the-type p) → Steps (advanced (cond s R.Gradient R.NotSupplied)) t a t a

@@ -9,7 +9,8 @@ use Rattle.definition.specs.Compact.{Compact, Pair, wrap}
 use Rattle.definition.specs.Counters as C
 use Rattle.definition.specs.Machine as M
 use Rattle.definition.specs.Driver.{askValue}
-use Rattle.area.specs.Area.{Vecs, view, upd, firstPair, firstColumn, vectors, FreeKept, ScratchOnly, Saved, X, G, Lower, Upper, X0, Trial, TrialGradient, Direction}
+use Rattle.area.specs.Area.{Vecs, view, upd, firstPair, firstColumn, vectors, FreeKept, ScratchOnly}
+use Rattle.area.specs.Area.{Saved, X, G, Lower, Upper, X0, Trial, TrialGradient, Direction}
 use Rattle.area.proofs.Laws.{saved-refl, saved-trans, saved-scratch}
 use Rattle.counters.specs.Counts.{valueCharge}
 use Rattle.counters.proofs.Laws.{charge-made, charge-spent}
@@ -132,7 +133,8 @@ pub steps-as : {F G : M.Machine → M.Machine} {t r : Fit} {a b : List Float} �
 steps-as h e = record { n = h .n; m = h .m; sound = h .sound; kept = h .kept; saved = h .saved; is = h .is ∙ e }
 
 -- one after the other
-pub steps-then : {F G : M.Machine → M.Machine} {t s r : Fit} {a b d : List Float} → Steps F t a s b → Steps G s b r d → Steps (λ (m : M.Machine). G (F m)) t a r d
+pub steps-then : {F G : M.Machine → M.Machine} {t s r : Fit} {a b d : List Float} → Steps F t a s b → Steps G s b r d
+    → Steps (λ (m : M.Machine). G (F m)) t a r d
 steps-then {G = G} h k = record {
   n = k .n ∙ h .n;
   m = k .m ∙ h .m;

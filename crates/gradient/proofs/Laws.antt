@@ -33,7 +33,8 @@ step-for t i x = refl
 pub probes-for : (t : Terms) (i : ℕ) (x low high : Float) → probesFor (t .eps) (t .scheme) x low high ≡ probesBetween t i x low high
 probes-for t i x low high = refl
 
-pub probes-at : (t : Terms) (i : ℕ) (x : List Float) → probesFor (t .eps) (t .scheme) (word x i) (word (t .bounds .lower) i) (word (t .bounds .upper) i) ≡ probesAt t x i
+pub probes-at : (t : Terms) (i : ℕ) (x : List Float)
+    → probesFor (t .eps) (t .scheme) (word x i) (word (t .bounds .lower) i) (word (t .bounds .upper) i) ≡ probesAt t x i
 unfolding probesAt
 probes-at t i x = refl
 

@@ -96,7 +96,8 @@ reached-held {t} {a} h m r e = record {
 terms-of : (t : Fit) (a : List Float) (s : Setup) (rs : List M.Reply) → Due s rs → machineOf t a ≡ run s rs → machineOf t a .terms ≡ termsOf s
 terms-of t a s rs d e = ap (λ (m : Machine). m .terms) e ∙ terms-stay s rs d
 
-needed-is : (t : Fit) (a : List Float) (s : Setup) (rs : List M.Reply) → Due s rs → machineOf t a ≡ run s rs → areaWords (t .shape .n) (t .shape .m) ≡ areaNeeded s
+needed-is : (t : Fit) (a : List Float) (s : Setup) (rs : List M.Reply) → Due s rs → machineOf t a ≡ run s rs
+    → areaWords (t .shape .n) (t .shape .m) ≡ areaNeeded s
 needed-is t a s rs d e = ap (λ (k : Terms). areaWords (k .n) (k .maxcor)) (terms-of t a s rs d e)
 
 -- what is held was reached

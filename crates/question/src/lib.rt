@@ -59,7 +59,8 @@ fn probe_word(probes: Probes, side: Side, x: f64) -> f64
 // The point of a probe of coordinate i.
 fn put_probe(fit: Fit, area: &[f64], i: usize, side: Side, out: &mut [f64])
     requires { ⌜ Sound (fit .shape) (length (now area)) × (i < fit .shape .n) × (fit .shape .n ≤ length (now out)) ⌝ }
-    ensures { λ _. ⌜ (let x = view (now (area .entry)) (fit .shape .n) Trial in now (out .exit) ≡ written (probePoint (probesAt (machineOf fit (now (area .entry)) .terms) x i) (sideOf side) i x) (now (out .entry))) ⌝ }
+    ensures { λ _. ⌜ (let x = view (now (area .entry)) (fit .shape .n) Trial in
+        now (out .exit) ≡ written (probePoint (probesAt (machineOf fit (now (area .entry)) .terms) x i) (sideOf side) i x) (now (out .entry))) ⌝ }
 {
     let n = fit.shape.n;
     copy_out(area, n, area::TRIAL, out);

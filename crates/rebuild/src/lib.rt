@@ -109,7 +109,8 @@ fn replay_record(
     frame: record::Frame,
 ) -> Replayed
     requires { ⌜ Opens (now input) (length (now area)) options frame ⌝ }
-    ensures { λ r. ⌜ Builds (setupRead (wordsIn (now (input .entry)) frame)) (entriesIn (now (input .entry)) frame) (frame .words - frame .setup) (length (now (log .entry)))
+    ensures { λ r. ⌜ Builds (setupRead (wordsIn (now (input .entry)) frame)) (entriesIn (now (input .entry)) frame) (frame .words - frame .setup)
+        (length (now (log .entry)))
         (now (area .entry)) r (now (area .exit)) ⌝ }
 {
     let vectors = record::vectors(input, frame);
@@ -161,7 +162,8 @@ pub fn reload(
     frame: record::Frame,
 ) -> Replayed
     requires { ⌜ Opens (now input) (length (now area)) options frame ⌝ }
-    ensures { λ r. ⌜ Builds (setupRead (wordsIn (now (input .entry)) frame)) (entriesIn (now (input .entry)) frame) (frame .words - frame .setup) (length (now (log .entry)))
+    ensures { λ r. ⌜ Builds (setupRead (wordsIn (now (input .entry)) frame)) (entriesIn (now (input .entry)) frame) (frame .words - frame .setup)
+        (length (now (log .entry)))
         (now (area .entry)) r (now (area .exit))
         × Reloads r (now (input .entry)) frame (now (log .entry)) (now (log .exit)) ⌝ }
 {

@@ -76,7 +76,8 @@ record Spells (n k : ℕ) (ws : List ℕ) (r : Reply) (l : ℕ) : Type 0 where
 spells-value : (n v : ℕ) (ws : List ℕ) → Spells n 1 (v ∷ ws) (R.Value v) 2
 spells-value n v ws = record { is = refl; size = refl; spelled = refl }
 
-spells-kind : {k : ℕ} → Kind k → (n : ℕ) (ws : List ℕ) → (k ≡ 1 → ⊥) → (entrySize k n ≡ 0 → ⊥) → entrySize k n ≤ length ws + 1 → Spells n k ws (kindReply k) (entrySize k n)
+spells-kind : {k : ℕ} → Kind k → (n : ℕ) (ws : List ℕ) → (k ≡ 1 → ⊥) → (entrySize k n ≡ 0 → ⊥) → entrySize k n ≤ length ws + 1
+    → Spells n k ws (kindReply k) (entrySize k n)
 spells-kind Kind.value n ws one z l = absurd (one refl)
 spells-kind Kind.gradient n ws one z l =
     let same : n + 1 - 1 ≡ n = omega arith in

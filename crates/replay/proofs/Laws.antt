@@ -125,7 +125,8 @@ module _ (t : Fit) (a : List Float) (ws : List ℕ) (room : ℕ) (here : t .extr
         go false due short f g k e = rw e (record { code = inl refl; next = λ ready rs w. absurd (true≢false (sym ready ∙ f)) })
 
     -- an entry that is taken, and counted
-    pub took-by : {f g : Fit} {b : List Float} → Sound (t .shape) (length a) → shapeHeld (t .shape) (length a) ≡ true → M.InRange (phaseOf (t .phase)) (t .shape .n)
+    pub took-by : {f g : Fit} {b : List Float} → Sound (t .shape) (length a) → shapeHeld (t .shape) (length a) ≡ true
+        → M.InRange (phaseOf (t .phase)) (t .shape .n)
         → isDue t r ≡ true → t .extra .words + l ≤ room → length b ≡ length a → Steps (λ (m : M.Machine). D.answer m reply) t a f b
         → g ≡ withExtra (moreKept (f .extra) l) f → Took t a ws room g b
     took-by {f} {g} {b} all held within due fits size s e =
@@ -163,7 +164,8 @@ module _ (t : Fit) (a : List Float) (ws : List ℕ) (room : ℕ) (here : t .extr
         took-by (ready .ready .sound) (ready .shape) (ready .within) (k .due) (k .fits) size s e
 
 -- what `replay_entry` answers, by its variant
-pub next-took : (t : Fit) (a : List Float) (ws : List ℕ) (room : ℕ) (r : Replayed) (f : Fit) (b : List Float) → r ≡ Done f → NextIs t a ws room r b → Took t a ws room f b
+pub next-took : (t : Fit) (a : List Float) (ws : List ℕ) (room : ℕ) (r : Replayed) (f : Fit) (b : List Float) → r ≡ Done f → NextIs t a ws room r b
+    → Took t a ws room f b
 next-took t a ws room r f b e h = subst (λ (q : Replayed). NextIs t a ws room q b) e h
 
 pub took-more : {t f : Fit} {a b : List Float} {ws : List ℕ} {room : ℕ} → Took t a ws room f b → t .extra .words < f .extra .words

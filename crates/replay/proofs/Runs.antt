@@ -35,10 +35,12 @@ use Rattle.replay.proofs.Laws.{took-by, took-more}
 -- ---- one entry
 
 -- the value that stands at a word
-pub value-reads : (n : ℕ) (ws : List ℕ) (at : ℕ) (e : Entry) (r : Reply) (l v : ℕ) → e ≡ Is r l → r ≡ R.Value v → EntryIs n ws at e → Reads n ws at (R.Value v) l
+pub value-reads : (n : ℕ) (ws : List ℕ) (at : ℕ) (e : Entry) (r : Reply) (l v : ℕ) → e ≡ Is r l → r ≡ R.Value v → EntryIs n ws at e
+    → Reads n ws at (R.Value v) l
 value-reads n ws at e r l v h k reads = subst (λ (z : Reply). Reads n ws at z l) k (subst (EntryIs n ws at) h reads)
 
-pub said-value : {n : ℕ} {ws : List ℕ} {q : Probing} {limit room v l : ℕ} (r : Said) → r ≡ S.Value v l → SaidIs n ws q limit room r → Offered n ws q limit room v l
+pub said-value : {n : ℕ} {ws : List ℕ} {q : Probing} {limit room v l : ℕ} (r : Said) → r ≡ S.Value v l → SaidIs n ws q limit room r
+    → Offered n ws q limit room v l
 said-value {n} {ws} {q} {limit} {room} r e h = subst (λ (z : Said). SaidIs n ws q limit room z) e h
 
 -- a value at the probe q of t, of a fit that can be advanced
@@ -123,10 +125,12 @@ run-first {ws} {limit} {room} {t} {w} {a} {q} h e = record {
 pub run-given : {ws : List ℕ} {limit room : ℕ} {t : Fit} {w : Place} {a b : List Float} {q : Probing} {v l : ℕ} → RunTo ws limit room t w a q b
     → (k : ℕ) → q .extra .words < k → length ws ≡ k → Ready t (length a) → shapeHeld (t .shape) (length a) ≡ true → Offered (t .shape .n) ws q limit room v l
     → Given t q b ws limit room v l
-run-given h k here count ready held said = record { here = rw count here; within = h .within; ready = rw (h .size) ready; held = rw (h .size) held; said = said }
+run-given h k here count ready held said =
+    record { here = rw count here; within = h .within; ready = rw (h .size) ready; held = rw (h .size) held; said = said }
 
 -- the counts that a step raises are as they were
-pub run-ready : {ws : List ℕ} {limit room : ℕ} {t : Fit} {w : Place} {a b d : List Float} {q : Probing} {F : M.Place → M.Machine → M.Machine} {r : Next} {size : ℕ}
+pub run-ready : {ws : List ℕ} {limit room : ℕ} {t : Fit} {w : Place} {a b d : List Float} {q : Probing} {F : M.Place → M.Machine → M.Machine} {r : Next}
+    {size : ℕ}
     → RunTo ws limit room t w a q b → LeadsTo F q t b r d → Ready t size → Ready (numbered (P.Probe w (q .i) (q .side)) (reached r) (probing w q t)) size
 run-ready {t = t} {r = r} h k ready =
     let nit : reached r .counters .nit ≡ t .counters .nit = k .nit ∙ h .nit in

@@ -89,7 +89,8 @@ fn store_gradient(
     from: usize,
 )
     requires { ⌜ (firstPair * n ≤ length (now area)) × Within source (now log) (now input) × (from + n ≤ source .words) ⌝ }
-    ensures { λ _. ⌜ view (now (area .exit)) n ≡ upd (view (now (area .entry)) n) TrialGradient (map toFloat (take n (drop from (sourceWords source (now (log .entry)) (now (input .entry)))))) ⌝ }
+    ensures { λ _. ⌜ view (now (area .exit)) n
+        ≡ upd (view (now (area .entry)) n) TrialGradient (map toFloat (take n (drop from (sourceWords source (now (log .entry)) (now (input .entry)))))) ⌝ }
 {
     if source.recorded {
         store_bytes(area, n, input, source.at + 8 * from);
@@ -170,8 +171,11 @@ fn take_entry(
     input: &[u8],
     reply: Reply,
 ) -> Fit
-    requires { ⌜ Within source (now log) (now input) × (isReady fit (length (now area)) ≡ true) × (isDue fit reply ≡ true) × (fit .extra .words + sizeOf reply (fit .shape .n) ≤ source .words) ⌝ }
-    ensures { λ f. ⌜ Steps (λ m. answer m (replied reply (gradientAt (fit .shape .n) (sourceWords source (now (log .entry)) (now (input .entry))) (fit .extra .words)))) fit (now (area .entry)) f (now (area .exit)) ⌝ }
+    requires { ⌜ Within source (now log) (now input) × (isReady fit (length (now area)) ≡ true) × (isDue fit reply ≡ true)
+        × (fit .extra .words + sizeOf reply (fit .shape .n) ≤ source .words) ⌝ }
+    ensures { λ f. ⌜ Steps
+        (λ m. answer m (replied reply (gradientAt (fit .shape .n) (sourceWords source (now (log .entry)) (now (input .entry))) (fit .extra .words))))
+        fit (now (area .entry)) f (now (area .exit)) ⌝ }
 {
     let Reply::Gradient = reply else {
         return driver::advance(fit, area, reply);

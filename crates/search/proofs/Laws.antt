@@ -1,4 +1,5 @@
--- The high end, and the count of trials: the code's test by `<` is the definition's by `≤`, and where the search goes on the count is below 60. Assumes nothing.
+-- The high end, and the count of trials: the code's test by `<` is the definition's by `≤`,
+-- and where the search goes on the count is below 60. Assumes nothing.
 use Prim.Native.Nat.{ℕ, _<_}
 use native.Mathlib.Omega.{arith}
 use mathlib.Core.Path.{_≡_, refl, subst}

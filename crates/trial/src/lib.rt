@@ -38,7 +38,8 @@ fn projected_at(area: &[f64], n: usize, largest: f64, i: usize) -> f64
 // `projected_norm` of the point held.
 fn projected_norm(area: &[f64], n: usize) -> f64
     requires { ⌜ firstPair * n ≤ length (now area) ⌝ }
-    ensures { λ r. ⌜ ((f : Float) → r ≡ projectedNorm n (boundsOf (view (now (area .entry)) n)) (record { x = view (now (area .entry)) n X; f = f; g = view (now (area .entry)) n G })) ⌝ }
+    ensures { λ r. ⌜ ((f : Float) → r ≡ projectedNorm n (boundsOf (view (now (area .entry)) n))
+        (record { x = view (now (area .entry)) n X; f = f; g = view (now (area .entry)) n G })) ⌝ }
 {
     let mut largest = 0.0f64;
     let mut i = 0;
@@ -84,7 +85,8 @@ fn trial_at(area: &[f64], n: usize, alpha: f64, i: usize) -> f64
 // The trial point: the point held plus alpha times the direction, brought into the box.
 fn put_trial(area: &mut [f64], n: usize, alpha: f64)
     requires { ⌜ firstPair * n ≤ length (now area) ⌝ }
-    ensures { λ _. ⌜ view (now (area .exit)) n ≡ upd (view (now (area .entry)) n) Trial (trialPoint n (boundsOf (view (now (area .entry)) n)) (view (now (area .entry)) n X) (view (now (area .entry)) n Direction) alpha) ⌝ }
+    ensures { λ _. ⌜ view (now (area .exit)) n ≡ upd (view (now (area .entry)) n) Trial
+        (trialPoint n (boundsOf (view (now (area .entry)) n)) (view (now (area .entry)) n X) (view (now (area .entry)) n Direction) alpha) ⌝ }
 {
     let mut i = 0;
     while i < n {

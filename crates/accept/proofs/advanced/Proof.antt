@@ -79,7 +79,8 @@ returns c =
     (due-long (s .args .fit) (s .args .area .now) (s .args .reply) (s .args .gradient .now) (s .pre .1)) in
     let f = ready-facts (s .args .fit) (length (s .args .area .now)) (s .pre .0) in
     rw (c .counted .ensures)
-    (advances (s .args .fit) (s .args .area .now) _ (s .args .reply) (s .args .gradient .now) (a .advance .result) _ _ _ (f .ready .sound) (f .within) (s .pre .1)
+    (advances (s .args .fit) (s .args .area .now) _ (s .args .reply) (s .args .gradient .now) (a .advance .result) _ _ _ (f .ready .sound) (f .within)
+    (s .pre .1)
     (p .put-gradient .ensures) (a .advance .ensures) z (m .mark .ensures) e)
 
 pub advanced-spec : {M : Type 1} → statement M

@@ -23,11 +23,30 @@ loop-holds c = row-none (omega arith)
 
 loop-again : tie.Need-loop-again Inv-loop μ-loop
 loop-again c =
+    let k = c .before .before .before in
     let l = c .before .before .loop-test .taken in
-    row-more (c .before .before .before .loop .inv) l (c .word-to-float .ensures ∙ float-at _ _ _ (c .before .before .before .before .before .before .pre .1) _ l)
+    row-more (k .loop .inv) l (c .word-to-float .ensures ∙ float-at _ _ _ (k .before .before .before .pre .1) _ l)
 
 returns : tie.Need-returns Inv-loop μ-loop
 returns c = row-stored _ (c .before .loop .inv) (omega arith) (floats-count _ _ _ (c .before .before .before .before .pre .1))
 
 pub store-gradient-spec : {M : Type 1} → statement M
-store-gradient-spec = tie.close (tie.spec Inv-loop μ-loop loop-holds (λ c. search laws) (λ c. search laws) (λ c. search laws) (λ c κs. search laws) (λ c. search laws) (λ c. search laws) (λ c. search laws) (λ c. search laws) (λ c. search laws) (λ c. search laws) loop-again (λ c. search laws) returns)
+store-gradient-spec =
+    tie.close
+    (tie.spec
+    Inv-loop
+    μ-loop
+    loop-holds
+    (λ c. search laws)
+    (λ c. search laws)
+    (λ c. search laws)
+    (λ c κs. search laws)
+    (λ c. search laws)
+    (λ c. search laws)
+    (λ c. search laws)
+    (λ c. search laws)
+    (λ c. search laws)
+    (λ c. search laws)
+    loop-again
+    (λ c. search laws)
+    returns)

@@ -8,7 +8,8 @@ use Rattle.differences.proofs.both_probed.Tie as tie
 returns : tie.Need-returns
 returns c =
     let a = c .before .before .before .before .args in
-    right-probed (a .numbers) (a .fit) (now (a .area)) (a .right) (a .left) (a .value) _ (c .ask-probe .ensures (now (a .area))) (c .before .enum-told .given .1)
+    right-probed (a .numbers) (a .fit) (now (a .area)) (a .right) (a .left) (a .value) _ (c .ask-probe .ensures (now (a .area)))
+    (c .before .enum-told .given .1)
 
 returns-2 : tie.Need-returns-2
 returns-2 c =

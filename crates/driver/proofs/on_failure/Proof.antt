@@ -9,7 +9,11 @@ use Rattle.driver.proofs.on_failure.Tie as tie
 
 returns : tie.Need-returns
 returns c =
-    record { shape = refl; kept = kept-refl; is = λ v. no-failure (c .before .before .args .fit .phase) _ (sym (c .before .question-kind .ensures) ∙ c .if1 .taken) }
+    record {
+      shape = refl;
+      kept = kept-refl;
+      is = λ v. no-failure (c .before .before .args .fit .phase) _ (sym (c .before .question-kind .ensures) ∙ c .if1 .taken);
+    }
 
 returns-2 : tie.Need-returns-2
 returns-2 c =

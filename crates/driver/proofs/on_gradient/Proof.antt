@@ -26,4 +26,14 @@ returns-3 c =
     (in-phase R.NotSupplied (Gradient _) (k .on-not-supplied .ensures) (b .before .before .phase .given .1) (λ m. refl))
 
 pub on-gradient-spec : {M : Type 1} → statement M
-on-gradient-spec = tie.close (tie.spec (λ c. search needs) returns (λ c κs. search needs) (λ c κs. search needs) (λ c. search needs) returns-2 (λ c. search needs) returns-3)
+on-gradient-spec =
+    tie.close
+    (tie.spec
+    (λ c. search needs)
+    returns
+    (λ c κs. search needs)
+    (λ c κs. search needs)
+    (λ c. search needs)
+    returns-2
+    (λ c. search needs)
+    returns-3)

@@ -7,7 +7,8 @@ use Rattle.fit.proofs.ask_value.Statement.{statement}
 use Rattle.fit.proofs.ask_value.Tie as tie
 
 returns : tie.Need-returns
-returns c = turns-as (c .ended .ensures) (λ v. charge-ends _ _ (sym (ap chargeOf (c .before .enum-told .given .1)) ∙ c .before .before .before .value-charged .ensures))
+returns c =
+    turns-as (c .ended .ensures) (λ v. charge-ends _ _ (sym (ap chargeOf (c .before .enum-told .given .1)) ∙ c .before .before .before .value-charged .ensures))
 
 returns-2 : tie.Need-returns-2
 returns-2 c =

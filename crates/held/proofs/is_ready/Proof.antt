@@ -13,14 +13,17 @@ use Rattle.held.proofs.is_ready.Tie as tie
 shape-passed : (c : tie.Else1) → (let s = c .before .before .before in shapeHeld (s .args .fit .shape) (s .args .size) ≡ true)
 shape-passed c = sym (c .before .shape-held .ensures) ∙ not-false _ (c .if1 .left)
 
-places-passed : (c : tie.Else2) → (let s = c .before .before .before .before .before .before .before in eqb (placesIn (s .args .fit .options)) (s .args .fit .shape .m) ≡ true)
+places-passed : (c : tie.Else2)
+    → (let s = c .before .before .before .before .before .before .before in eqb (placesIn (s .args .fit .options)) (s .args .fit .shape .m) ≡ true)
 places-passed c = eq-eqb _ _ (sym (c .before .before .places .ensures) ∙ c .if2 .left)
 
-counts-passed : (c : tie.Else3) → (let s = c .before .before .before .before .before .before .before .before .before .before in countsHeld (s .args .fit .counters) ≡ true)
+counts-passed : (c : tie.Else3)
+    → (let s = c .before .before .before .before .before .before .before .before .before .before in countsHeld (s .args .fit .counters) ≡ true)
 counts-passed c = sym (c .before .counts-held .ensures) ∙ not-false _ (c .if3 .left)
 
 log-passed : (c : tie.Else4)
-    → (let x = c .before .before .before .before .before .before .before .before .before .before .before .before .args .fit .extra in logHeld (x .entries) (x .words) ≡ true)
+    → (let x = c .before .before .before .before .before .before .before .before .before .before .before .before .args .fit .extra in
+    logHeld (x .entries) (x .words) ≡ true)
 log-passed c = sym (c .before .log-held .ensures) ∙ not-false _ (c .if4 .left)
 
 returns : tie.Need-returns
@@ -39,7 +42,8 @@ returns-4 : tie.Need-returns-4
 returns-4 c =
     let d = c .before .before in
     let b = d .before .before .before in
-    log-fails _ _ (shape-passed (b .before .before .before .before)) (places-passed b) (counts-passed d) (sym (c .before .log-held .ensures) ∙ not-true _ (c .if4 .taken))
+    let k = b .before .before .before .before in
+    log-fails _ _ (shape-passed (k)) (places-passed b) (counts-passed d) (sym (c .before .log-held .ensures) ∙ not-true _ (c .if4 .taken))
 
 returns-5 : tie.Need-returns-5
 returns-5 c =

@@ -21,4 +21,14 @@ returns-5 c = simp (c .enum-told4 .given .1)
 pub phase-held-spec : {M : Type 1} → statement M
 phase-held-spec =
     tie.close
-    (tie.spec (λ c. search needs) (λ c. search needs) (λ c. search needs) (λ c. search needs) (λ c. search needs) returns returns-2 returns-3 returns-4 returns-5)
+    (tie.spec
+    (λ c. search needs)
+    (λ c. search needs)
+    (λ c. search needs)
+    (λ c. search needs)
+    (λ c. search needs)
+    returns
+    returns-2
+    returns-3
+    returns-4
+    returns-5)

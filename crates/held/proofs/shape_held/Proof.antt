@@ -27,7 +27,8 @@ returns-5 c =
     let e = c .before .before in
     let d = e .before .before in
     let b = d .before .before in
-    simp (some-ltb _ (b .before .before .if1 .left), le-leb _ _ (b .if2 .left), some-ltb _ (d .if3 .left), le-leb _ _ (e .if4 .left), lt-leb _ _ (c .if5 .taken))
+    simp
+    (some-ltb _ (b .before .before .if1 .left), le-leb _ _ (b .if2 .left), some-ltb _ (d .if3 .left), le-leb _ _ (e .if4 .left), lt-leb _ _ (c .if5 .taken))
 
 returns-6 : tie.Need-returns-6
 returns-6 c =
@@ -35,7 +36,14 @@ returns-6 c =
     let e = f .before .before in
     let d = e .before .before in
     let b = d .before .before in
-    simp (some-ltb _ (b .before .before .if1 .left), le-leb _ _ (b .if2 .left), some-ltb _ (d .if3 .left), le-leb _ _ (e .if4 .left), le-leb _ _ (f .if5 .left), le-ltb _ _ (c .if6 .taken))
+    simp (
+      some-ltb _ (b .before .before .if1 .left),
+      le-leb _ _ (b .if2 .left),
+      some-ltb _ (d .if3 .left),
+      le-leb _ _ (e .if4 .left),
+      le-leb _ _ (f .if5 .left),
+      le-ltb _ _ (c .if6 .taken),
+    )
 
 words-requires : tie.Need-words-requires
 words-requires c κs =
@@ -49,7 +57,15 @@ returns-7 c =
     let e = f .before .before in
     let d = e .before .before in
     let b = d .before .before in
-    simp (some-ltb _ (b .before .before .if1 .left), le-leb _ _ (b .if2 .left), some-ltb _ (d .if3 .left), le-leb _ _ (e .if4 .left), le-leb _ _ (f .if5 .left), lt-ltb _ _ (g .if6 .left), c .words .ensures)
+    simp (
+      some-ltb _ (b .before .before .if1 .left),
+      le-leb _ _ (b .if2 .left),
+      some-ltb _ (d .if3 .left),
+      le-leb _ _ (e .if4 .left),
+      le-leb _ _ (f .if5 .left),
+      lt-ltb _ _ (g .if6 .left),
+      c .words .ensures,
+    )
 
 pub shape-held-spec : {M : Type 1} → statement M
 shape-held-spec = tie.close (tie.spec returns returns-2 returns-3 returns-4 returns-5 returns-6 words-requires returns-7)

@@ -11,7 +11,9 @@ use Rattle.rebuild.proofs.replay_record.Statement.{statement}
 use Rattle.rebuild.proofs.replay_record.Tie as tie
 
 vectors-requires : tie.Need-vectors-requires
-vectors-requires c κs = let s = c .before .before .before in opened-room (s .args .input .now) (length (s .args .area .now)) (s .args .options) (s .args .frame) (s .pre)
+vectors-requires c κs =
+    let s = c .before .before .before in
+    opened-room (s .args .input .now) (length (s .args .area .now)) (s .args .options) (s .args .frame) (s .pre)
 
 begin-from-requires : tie.Need-begin-from-requires
 begin-from-requires c κs =
@@ -43,7 +45,10 @@ replay-requires c κs =
     let a = s .args in
     let k = record-opened (a .input .now) (length (a .area .now)) (a .options) (a .frame) (s .pre)
     (v .vectors .ensures) (r .ensures) in (
-      record { logged = λ e. absurd (false≢true (sym e)); recorded = λ e. entries-within (a .input .now) (length (a .area .now)) (a .options) (a .frame) (s .pre) },
+      record {
+        logged = λ e. absurd (false≢true (sym e));
+        recorded = λ e. entries-within (a .input .now) (length (a .area .now)) (a .options) (a .frame) (s .pre);
+      },
       record-ready (a .input .now) (length (a .area .now)) (a .options) (a .frame) (s .pre) refl k,
       k .entries,
       k .words,

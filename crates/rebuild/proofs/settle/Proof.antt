@@ -20,9 +20,10 @@ returns c =
 
 returns-2 : tie.Need-returns-2
 returns-2 c =
-    let s = c .before .before .before .before .before .before .before .before .before in
+    let e = c .before .before .before .before .before .before in
+    let s = e .before .before .before in
     let m = c .before .before .mark in
-    subst (λ (r : Replayed). Settles r (s .args .area .now) (m .last .0)) (sym (c .before .before .before .before .before .before .replayed .given .1)) (m .ensures)
+    subst (λ (r : Replayed). Settles r (s .args .area .now) (m .last .0)) (sym (e .replayed .given .1)) (m .ensures)
 
 pub settle-spec : {M : Type 1} → statement M
 settle-spec =

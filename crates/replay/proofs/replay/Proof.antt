@@ -25,23 +25,41 @@ returns : tie.Need-returns Inv-loop μ-loop
 returns c = let h = c .before .before .before .before .before .loop .inv in reached-done h (inr (omega (arith, h .few, c .if2 .taken)))
 
 replay-entry-requires : tie.Need-replay-entry-requires Inv-loop μ-loop
-replay-entry-requires c κs = let h = c .before .before .before .before .before .before .loop .inv in (c .before .before .before .before .before .before .before .before .before .before .pre .0, c .before .before .before .if1 .taken, omega (arith, h .n, h .small))
+replay-entry-requires c κs =
+    let t = c .before .before .before in
+    let l = t .before .before .before in
+    let s = l .before .before .before .before in
+    let h = l .loop .inv in
+    (s .pre .0, t .if1 .taken, omega (arith, h .n, h .small))
 
 returns-2 : tie.Need-returns-2 Inv-loop μ-loop
-returns-2 c = reached-refused _ (c .enum-told .given .1) (c .before .before .before .before .before .before .before .before .before .before .before .loop .inv) (c .before .before .before .before .before .before .if2 .left) (c .before .before .before .area .given) (c .before .before .before .before .replay-entry .ensures)
+returns-2 c =
+    let a = c .before .before .before in
+    let t = a .before .before .before in
+    let l = t .before .before .before .before .before in
+    reached-refused _ (c .enum-told .given .1) (l .loop .inv) (t .if2 .left) (a .area .given) (a .before .replay-entry .ensures)
 
 after-probes-requires : tie.Need-after-probes-requires Inv-loop μ-loop
-after-probes-requires c κs = c .before .before .before .before .before .before .before .before .before .before .before .before .before .before .before .before .before .pre .0
+after-probes-requires c κs =
+    let s = c .before .before .before .before .before .before .before .before .before .before .before .before .before .before .before .before .before in
+    s .pre .0
 
 loop-less : tie.Need-loop-less Inv-loop μ-loop
 loop-less c =
-    let k = next-took _ _ _ _ _ _ _ (c .before .before .before .before .before .next .given .1) (c .before .before .before .before .before .before .before .before .before .replay-entry .ensures) in
-    omega (arith, took-more k, run-least (c .before .before .after-probes .ensures), c .before .before .before .before .before .before .before .before .before .before .before .before .before .if1 .taken)
+    let n = c .before .before .before .before .before in
+    let r = n .before .before .before .before in
+    let t = r .before .before .before .before in
+    let k = next-took _ _ _ _ _ _ _ (n .next .given .1) (r .replay-entry .ensures) in
+    omega (arith, took-more k, run-least (c .before .before .after-probes .ensures), t .if1 .taken)
 
 loop-again : tie.Need-loop-again Inv-loop μ-loop
 loop-again c =
-    let k = next-took _ _ _ _ _ _ _ (c .before .before .before .before .before .next .given .1) (c .before .before .before .before .before .before .before .before .before .replay-entry .ensures) in
-    reached-run (reached-more (c .before .before .before .before .before .before .before .before .before .before .before .before .before .before .before .before .loop .inv) (c .before .before .before .before .before .before .before .before .before .before .before .if2 .left) (c .before .before .before .before .before .before .before .before .area .given) k) (c .before .before .after-probes .ensures)
+    let n = c .before .before .before .before .before in
+    let a = n .before .before .before in
+    let t = a .before .before .before in
+    let l = t .before .before .before .before .before in
+    let k = next-took _ _ _ _ _ _ _ (n .next .given .1) (a .before .replay-entry .ensures) in
+    reached-run (reached-more (l .loop .inv) (t .if2 .left) (a .area .given) k) (c .before .before .after-probes .ensures)
 
 returns-3 : tie.Need-returns-3 Inv-loop μ-loop
 returns-3 c =

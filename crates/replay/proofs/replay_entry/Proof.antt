@@ -46,29 +46,34 @@ take-entry-requires c κs =
 
 counted-requires : tie.Need-counted-requires
 counted-requires c κs =
-    let at = c .before .before .before .before .before .before .before .before .before .before .before .before .before in
+    let t = c .before .before .before .before in
+    let e = t .before .before .before in
+    let at = e .before .before .before .before .before .before in
     let a = at .args in
     let ws = sourceWords (a .source) (now (a .log)) (now (a .input)) in
     let here : a .fit .extra .words < length ws = omega (arith, source-count (a .source) (now (a .log)) (now (a .input)) (at .pre .0), at .pre .1) in
     let reads = subst (EntryIs (a .fit .shape .n) ws (a .fit .extra .words))
-    (c .before .before .before .before .before .before .before .entry .given .1)
-    (c .before .before .before .before .before .before .before .before .before .entry-at .ensures) in
-    let k = admitted-is (a .fit) (now (a .area)) ws (a .room) here _ _ reads _ (c .before .before .before .before .before .admitted .ensures) (c .before .before .before .before .if1 .left) in
+    (e .entry .given .1)
+    (e .before .before .entry-at .ensures) in
+    let k = admitted-is (a .fit) (now (a .area)) ws (a .room) here _ _ reads _ (t .before .admitted .ensures) (t .if1 .left) in
     let h = ready-facts (a .fit) (length (now (a .area))) (k .ready) in
     let kept = c .before .before .take-entry .ensures .kept in
     rw (kept .extra) (omega (arith, h .entries), omega (arith, h .words, reads .size, reads-most reads, at .pre .2))
 
 returns-3 : tie.Need-returns-3
 returns-3 c =
-    let at = c .before .before .before .before .before .before .before .before .before .before .before .before .before .before in
+    let t = c .before .before .before in
+    let d = t .before .before .before in
+    let e = d .before .before .before .before in
+    let at = e .before .before .before .before in
     let a = at .args in
     let ws = sourceWords (a .source) (now (a .log)) (now (a .input)) in
     let here : a .fit .extra .words < length ws = omega (arith, source-count (a .source) (now (a .log)) (now (a .input)) (at .pre .0), at .pre .1) in
     let reads = subst (EntryIs (a .fit .shape .n) ws (a .fit .extra .words))
-    (c .before .before .before .before .before .before .before .before .entry .given .1)
-    (c .before .before .before .before .before .before .before .before .before .before .entry-at .ensures) in
-    let k = admitted-is (a .fit) (now (a .area)) ws (a .room) here _ _ reads _ (c .before .before .before .before .before .before .admitted .ensures) (c .before .before .before .before .before .if1 .left) in
-    took (a .fit) (now (a .area)) ws (a .room) here _ _ reads k (c .before .before .area .given) (c .before .before .before .take-entry .ensures) (c .counted .ensures)
+    (d .before .before .entry .given .1)
+    (e .entry-at .ensures) in
+    let k = admitted-is (a .fit) (now (a .area)) ws (a .room) here _ _ reads _ (d .admitted .ensures) (t .before .before .if1 .left) in
+    took (a .fit) (now (a .area)) ws (a .room) here _ _ reads k (c .before .before .area .given) (t .take-entry .ensures) (c .counted .ensures)
 
 pub replay-entry-spec : {M : Type 1} → statement M
 replay-entry-spec =

@@ -6,7 +6,8 @@ use native.Mathlib.Omega.{arith}
 use borrow.Author.Needs.{needs}
 use Rattle.replay.specs.Replays.{sourceWords}
 use Rattle.replay.proofs.Words.{source-count}
-use Rattle.replay.proofs.Runs.{RunTo, run-first, run-given, run-ready, run-more, run-words, counts-fit, run-last, run-built, said-value, next-words, last-extra}
+use Rattle.replay.proofs.Runs.{RunTo, run-first, run-given, run-ready, run-more, run-words, counts-fit}
+use Rattle.replay.proofs.Runs.{run-last, run-built, said-value, next-words, last-extra}
 use Rattle.replay.proofs.run_probes.Statement.{statement}
 use Rattle.replay.proofs.run_probes.Tie as tie
 
@@ -61,7 +62,8 @@ same-length-2 c =
 returns-2 : tie.Need-returns-2 Inv-loop μ-loop
 returns-2 c =
     let z = c .before .before .before in
-    let k = z .before .before .before .before .before .before in
+    let r = z .before .before .before .before .before in
+    let k = r .before in
     let o = k .before .before .before .before in
     let i = o .before .before .before in
     let h = i .before .before .before in
@@ -69,7 +71,7 @@ returns-2 c =
     let a = s .args in
     let g = run-given (h .loop .inv) (a .source .words) (i .if1 .taken) (source-count (a .source) (now (a .log)) (now (a .input)) (s .pre .0))
     (s .pre .1) (s .pre .2) (said-value _ (o .said .given .1) (o .before .before .value-at .ensures)) in
-    run-last (h .loop .inv) g _ _ _ _ _ (k .before .before .word-to-float .ensures) (c .before .before .area2 .given ∙ z .before .before .before .before .before .area .given)
+    run-last (h .loop .inv) g _ _ _ _ _ (k .before .before .word-to-float .ensures) (c .before .before .area2 .given ∙ r .area .given)
     (k .next-probe .ensures)
     (rw (z .before .before .with-probe2 .ensures) at (z .settle .ensures)) (c .counted .ensures)
 

@@ -18,7 +18,8 @@ word-at-requires c κs = let p = c .before .before .before .before .pre in omega
 returns : tie.Need-returns
 returns c =
     let at = c .before .before .before .before .before in
-    c .word-at .ensures ∙ recorded-word (at .args .source) (now (at .args .log)) (now (at .args .input)) (at .pre .0) (at .args .i) (c .before .before .if1 .taken) (at .pre .1)
+    c .word-at .ensures
+    ∙ recorded-word (at .args .source) (now (at .args .log)) (now (at .args .input)) (at .pre .0) (at .args .i) (c .before .before .if1 .taken) (at .pre .1)
 
 mul-result : tie.Need-mul-result
 mul-result c = let p = c .before .before .before .pre in omega (arith, p .1, p .0 .logged (c .if1 .left))

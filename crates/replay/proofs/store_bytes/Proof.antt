@@ -29,7 +29,27 @@ loop-again c =
     row-more (c .before .before .before .loop .inv) l (c .word-to-float .ensures ∙ ap toFloat (c .before .word-at .ensures) ∙ byte-float _ _ _ _ l)
 
 returns : tie.Need-returns Inv-loop μ-loop
-returns c = let a = c .before .before .before .before .args in row-stored (map toFloat (wordsOf (a .n) (drop (a .at) (now (a .input))))) (c .before .loop .inv) (omega arith) (byte-floats (now (a .input)) (a .n) (a .at))
+returns c =
+    let a = c .before .before .before .before .args in
+    row-stored (map toFloat (wordsOf (a .n) (drop (a .at) (now (a .input))))) (c .before .loop .inv) (omega arith) (byte-floats (now (a .input)) (a .n) (a .at))
 
 pub store-bytes-spec : {M : Type 1} → statement M
-store-bytes-spec = tie.close (tie.spec Inv-loop μ-loop loop-holds (λ c. search laws) (λ c. search laws) (λ c κs. search laws) (λ c κs. search laws) (λ c. search laws) (λ c. search laws) (λ c. search laws) (λ c. search laws) (λ c. search laws) (λ c. search laws) loop-again (λ c. search laws) returns)
+store-bytes-spec =
+    tie.close
+    (tie.spec
+    Inv-loop
+    μ-loop
+    loop-holds
+    (λ c. search laws)
+    (λ c. search laws)
+    (λ c κs. search laws)
+    (λ c κs. search laws)
+    (λ c. search laws)
+    (λ c. search laws)
+    (λ c. search laws)
+    (λ c. search laws)
+    (λ c. search laws)
+    (λ c. search laws)
+    loop-again
+    (λ c. search laws)
+    returns)

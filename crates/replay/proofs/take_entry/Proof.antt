@@ -31,7 +31,10 @@ store-gradient-requires c κs =
     (first-room (ready-facts _ _ (at .pre .1) .ready .sound), at .pre .0, fits)
 
 advance-requires-2 : tie.Need-advance-requires-2
-advance-requires-2 c κs = let h = ready-facts _ _ (c .before .before .before .before .before .before .before .before .before .before .before .pre .1) in (rw (c .before .before .area2 .given) (h .ready), h .within)
+advance-requires-2 c κs =
+    let s = c .before .before .before .before .before .before .before .before .before .before .before in
+    let h = ready-facts _ _ (s .pre .1) in
+    (rw (c .before .before .area2 .given) (h .ready), h .within)
 
 returns-2 : tie.Need-returns-2
 returns-2 c =

@@ -12,10 +12,9 @@ returns c = (simp (sym (c .before .before .decreases .ensures), sym (c .before .
 returns-2 : tie.Need-returns-2
 unfolding accepts afterTrial
 returns-2 c =
-    let a = c .before .before .before in (
-      simp (c .after-trial .ensures .0, c .before .narrows .ensures, sym (a .before .decreases .ensures), sym (a .accepts .ensures) ∙ c .before .before .if1 .left),
-      c .after-trial .ensures .1,
-    )
+    let a = c .before .before .before in
+    let refused = sym (a .accepts .ensures) ∙ c .before .before .if1 .left in
+    (simp (c .after-trial .ensures .0, c .before .narrows .ensures, sym (a .before .decreases .ensures), refused), c .after-trial .ensures .1)
 
 pub judge-spec : {M : Type 1} → statement M
 judge-spec = tie.close (tie.spec (λ c κs. search needs) (λ c κs. search needs) returns (λ c κs. search needs) (λ c κs. search needs) returns-2)

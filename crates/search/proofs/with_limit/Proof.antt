@@ -10,10 +10,11 @@ returns : tie.Need-returns
 returns c = (simp (sym (c .before .is-finite .ensures) ∙ not-true _ (c .if1 .taken)), tt)
 
 returns-2 : tie.Need-returns-2
-returns-2 c = (
-  simp (sym (c .before .before .before .before .is-finite .ensures) ∙ not-false _ (c .before .before .before .if1 .left), ← zero-is, c .before .if2 .taken, c .min .ensures, one-is),
-  λ e. zero-is,
-)
+returns-2 c =
+    let t = c .before .before .before in (
+      simp (sym (t .before .is-finite .ensures) ∙ not-false _ (t .if1 .left), ← zero-is, c .before .if2 .taken, c .min .ensures, one-is),
+      λ e. zero-is,
+    )
 
 returns-3 : tie.Need-returns-3
 returns-3 c = (simp (sym (c .before .before .before .is-finite .ensures) ∙ not-false _ (c .before .before .if1 .left), ← zero-is, c .if2 .left), tt)

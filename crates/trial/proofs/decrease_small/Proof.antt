@@ -7,8 +7,10 @@ use Rattle.trial.proofs.decrease_small.Tie as tie
 
 returns : tie.Need-returns
 unfolding decreaseSmall
-returns c = λ v.
-    rw (c .before .max2 .ensures, c .before .before .max .ensures, c .before .before .before .abs2 .ensures, c .before .before .before .before .abs .ensures, one-is)
+returns c =
+    let a = c .before .before .before in
+    λ v.
+    rw (c .before .max2 .ensures, c .before .before .max .ensures, a .abs2 .ensures, a .before .abs .ensures, one-is)
 
 pub decrease-small-spec : {M : Type 1} → statement M
 decrease-small-spec = tie.close (tie.spec (λ c κs. search needs) (λ c κs. search needs) (λ c κs. search needs) (λ c κs. search needs) returns)
