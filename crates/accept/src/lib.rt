@@ -1,4 +1,6 @@
 // What a start and a reply are checked for, the entry of a reply in the log, and the fit that it advances.
+#![tactic(auto)]
+
 ghost use Rattle.std.specs.Prelude.{◌≡◌, true, List, ℕ, ◌+◌, ◌-◌, ◌*◌, ◌≤◌, ltb, Float, length};
 ghost use Rattle.std.proofs.Math.Option.{none};
 ghost use Rattle.definition.specs.Problem.{refuse, when, ◌then◌, validate, most_coordinates, most_pairs, area_words};

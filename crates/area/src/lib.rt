@@ -1,4 +1,6 @@
 // The working area: one lent slice, in which vector k of n words stands at offset k * n.
+#![tactic(auto)]
+
 ghost use Rattle.std.specs.Prelude.{◌≡◌, ◌+◌, ◌*◌, ◌≤◌, ◌<◌, map, length, take, drop, ◌&&◌};
 ghost use Rattle.definition.specs.Number.{to_float};
 ghost use Rattle.std.specs.Float.Ieee.Scale.{finite};

@@ -1,4 +1,6 @@
 // What the programs that run cases share: words of 64 bits in bytes and in a file, the lowest byte first; lines of counts.
+#![tactic(auto)]
+
 ghost use Rattle.std.specs.Prelude.{◌≤◌};
 
 use libc::STDOUT_FILENO;

@@ -1,4 +1,6 @@
 // `generalized_cauchy`: break times, the projected path, and the Cauchy point on it.
+#![tactic(auto)]
+
 ghost use Rattle.std.specs.Prelude.{◌≡◌, ◌&&◌, ◌-◌, ◌*◌, ◌≤◌, ◌<◌, length, get_or};
 ghost use Rattle.std.specs.Float.Ieee as Ieee;
 ghost use Rattle.definition.specs.Number.{plus, total_le, zero64};

@@ -1,4 +1,6 @@
 // `Compact`: the correction pairs as a ring in the area, `update`, the block of the middle matrix, and products with B.
+#![tactic(auto)]
+
 ghost use Rattle.std.specs.Prelude.{◌≡◌, ◌&&◌, ℕ, ◌+◌, ◌*◌, ◌≤◌, ◌<◌, length};
 ghost use Rattle.definition.specs.Number.{over, times, minus, zero64};
 ghost use Rattle.definition.specs.Vector.{tab, dot as dot_of};

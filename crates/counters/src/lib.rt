@@ -1,4 +1,6 @@
 // `Counters` and `Termination`: what is counted, each budget where it is charged, and how a fit ends.
+#![tactic(auto)]
+
 ghost use Rattle.std.specs.Prelude.{◌≡◌, ◌<◌};
 ghost use Rattle.definition.specs.Counters.{status_number, first_counters, value_left};
 ghost use Rattle.definition.specs.Counters.{charge_gradient as charge_gradient_of, charge_iteration as charge_iteration_of, iterations_spent};

@@ -275,7 +275,7 @@ failure_leads (Turn.fails e) d = refl
 failure_leads (Turn.unmoved r c e) d = absurd (false≢true (sym e ∙ d))
 
 value_leads :
-    {b : Machine} {c : Bool} {m : Machine} (v : ℕ) → Turn b (Reply.value v) c m → takes b (Reply.value v) ≡ true → finite (to_float v) ≡ false
+    (v : ℕ) {b : Machine} {c : Bool} {m : Machine} → Turn b (Reply.value v) c m → takes b (Reply.value v) ≡ true → finite (to_float v) ≡ false
     → m.phase ≡ Phase.ended Termination.nonfinite
 value_leads v (Turn.value w u e q) d f = absurd (true≢false (sym q ∙ f))
 value_leads v (Turn.nonfinite w u e q) d f = refl

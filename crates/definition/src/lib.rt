@@ -1,1 +1,2 @@
 // The definition of the bounded fit stands in specs/, its theorems in proofs/.
+#![tactic(auto)]

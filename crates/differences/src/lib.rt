@@ -1,4 +1,6 @@
 // The differenced gradient: from a value at a probe to the next probe, coordinate by coordinate, over the few numbers that it changes.
+#![tactic(auto)]
+
 ghost use Rattle.std.specs.Prelude.{◌≡◌, List, ◌-◌, ◌≤◌, ◌<◌, length, Float};
 ghost use Rattle.definition.specs.Gradient.{both};
 ghost use Rattle.definition.specs.Machine.{Phase as PhaseOf};

@@ -1,4 +1,6 @@
 // The driver: whether a reply is due, and the step from it to the next question.
+#![tactic(auto)]
+
 ghost use Rattle.std.specs.Prelude.{◌≡◌, List, ℕ, length, cond};
 ghost use Rattle.area.specs.Area.{Vecs};
 ghost use Rattle.problem.specs.Setups.{check_of};

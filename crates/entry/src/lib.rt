@@ -1,4 +1,6 @@
 // The C entry: a record's bytes in, a number back, and the point of the open question, or the held one, in the output.
+#![tactic(auto)]
+
 ghost use Rattle.std.specs.Prelude.{◌≡◌, List, map, ℕ, ◌*◌, ◌≤◌, length, take};
 ghost use Rattle.definition.specs.Number.{to_word};
 ghost use Rattle.definition.specs.Machine.{question};

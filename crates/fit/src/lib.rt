@@ -1,4 +1,6 @@
 // The state of a fit, by value, and the steps that touch no vector.
+#![tactic(auto)]
+
 ghost use Rattle.std.specs.Prelude.{◌≡◌, ◌+◌, ◌<◌};
 ghost use Rattle.definition.specs.Machine.{kind_of, ending};
 ghost use Rattle.definition.specs.Driver.{ask_value, valued as valued_of};

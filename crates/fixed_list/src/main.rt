@@ -1,6 +1,8 @@
 // Replays the fixed list of the Rust's answers through the exported operations and compares every bit. The first argument names the file;
 // `oracle/list/README.md` has its format. One area and one log serve all cases, so each starts on what the last left. An accepted record is
 // restored and its replies are taken back one by one; then its setup is opened and each reply given again.
+#![tactic(auto)]
+
 use cases::{Next, after, fetch, fetch_word, is_count, least, size, word};
 use lbfgsb::{Answer, Asked, Fit, Outcome, Reply, Told};
 use record::Parsed;

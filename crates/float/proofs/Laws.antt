@@ -21,14 +21,14 @@ ne_self (inf false) = refl
 ne_self (fin true m e) = simp (eq-eqb (m * up e * down e) (m * up e * down e) refl)
 ne_self (fin false m e) = simp (eq-eqb (m * up e * down e) (m * up e * down e) refl)
 
-is_nan : (x : Float) → is_nan x ≡ true → x ≡ nan
+is_nan_lem : (x : Float) → is_nan x ≡ true → x ≡ nan
 unfolding is_nan
-is_nan nan h = refl
-is_nan (inf s) h = cc
-is_nan (fin s m e) h = cc
+is_nan_lem nan h = refl
+is_nan_lem (inf s) h = cc
+is_nan_lem (fin s m e) h = cc
 
 pub nan_of_ne : (x : Float) → ne x x ≡ true → x ≡ nan
-nan_of_ne x h = is_nan x (sym (ne_self x) ∙ h)
+nan_of_ne x h = is_nan_lem x (sym (ne_self x) ∙ h)
 
 pub not_nan_of_eq : (x : Float) → ne x x ≡ false → T (not (is_nan x))
 not_nan_of_eq x h = subst (λ (t : Bool). T (not t)) (sym h ∙ ne_self x) tt
@@ -36,7 +36,7 @@ not_nan_of_eq x h = subst (λ (t : Bool). T (not t)) (sym h ∙ ne_self x) tt
 -- ---- words
 
 pub nan_of_word : (w : ℕ) → infinity_word < w % sign_bit → to_float w ≡ nan
-nan_of_word w h = is_nan (to_float w) (sym (nan_bits_is binary64 w) ∙ nan_bits_above binary64 w ∙ lt-ltb _ _ h)
+nan_of_word w h = is_nan_lem (to_float w) (sym (nan_bits_is binary64 w) ∙ nan_bits_above binary64 w ∙ lt-ltb _ _ h)
 
 pub not_nan_of_word : (w : ℕ) → w % sign_bit ≤ infinity_word → T (not (nan_bits binary64 w))
 not_nan_of_word w h = subst (λ (t : Bool). T (not t)) (sym (nan_bits_above binary64 w ∙ le-ltb _ _ h)) tt

@@ -1,4 +1,6 @@
 // The definition's numbers in code: words and floats, their order and neighbours, the constants.
+#![tactic(auto)]
+
 ghost use Rattle.std.specs.Prelude.{◌≡◌};
 ghost use Rattle.std.specs.Float.Ieee.{is_nan};
 ghost use Rattle.std.specs.Float.Ieee.Scale.{finite};

@@ -1,4 +1,6 @@
 // The differenced gradient, coordinate by coordinate: what is probed, and what the probes give.
+#![tactic(auto)]
+
 ghost use Rattle.std.specs.Prelude.{◌+◌, ◌*◌, ◌≤◌, ◌<◌, ◌≡◌, ◌&&◌, length};
 ghost use Rattle.std.specs.Float.Ieee as Ieee;
 ghost use Rattle.std.specs.Float.Ieee.Scale.{finite};

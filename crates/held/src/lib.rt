@@ -1,4 +1,6 @@
 // What state, area and log hold between two calls: the test for a held fit, the mark, and the state that holds none.
+#![tactic(auto)]
+
 ghost use Rattle.std.specs.Prelude.{◌≡◌, true, false, ◌≤◌, List, Float, length};
 ghost use Rattle.definition.specs.Problem.{most_coordinates, most_pairs};
 ghost use Rattle.held.specs.Test.{mark_at, shape_held, counts_held, log_held, phase_held, is_ready, is_held, Marks};

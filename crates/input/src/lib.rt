@@ -1,4 +1,6 @@
 // A record of at most 65,536 bytes, read into an area and a log that every such record fits: the input of the report program and of the C entry.
+#![tactic(auto)]
+
 ghost use Rattle.std.specs.Prelude.{◌≡◌, length};
 ghost use Rattle.definition.specs.Programs.{input_area, input_log, read_input};
 ghost use Rattle.input.specs.Input.{Taken};

@@ -1,4 +1,6 @@
 // One iteration of the driver: the model, the direction that it gives, and the first trial along it.
+#![tactic(auto)]
+
 ghost use Rattle.std.specs.Prelude.{◌≤◌, length};
 ghost use Rattle.definition.specs.Problem.{most_coordinates};
 ghost use Rattle.definition.specs.Driver.{search_along, towards as towards_of, without_pairs, descend as descend_of, iterate as iterate_of};

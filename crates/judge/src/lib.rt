@@ -1,4 +1,6 @@
 // The value at a place, and its gradient once that is complete: the trial is accepted and its pair kept, or the search goes on.
+#![tactic(auto)]
+
 ghost use Rattle.std.specs.Prelude.{◌≡◌, ◌≤◌, ◌<◌, length};
 ghost use Rattle.definition.specs.Problem.{most_coordinates};
 ghost use Rattle.definition.specs.Machine.{holding};

@@ -1,5 +1,7 @@
 // Replays a list of the original's answers for the numerical kernel and compares every bit. The first argument names the file;
 // `oracle/README.md`, "The list of leaves", has its format.
+#![tactic(auto)]
+
 ghost use Rattle.std.specs.Prelude.{◌≡◌, true, ◌+◌, ◌*◌, ◌≤◌, ◌<◌, length};
 ghost use Rattle.area.specs.Area.{first_pair};
 ghost use Rattle.compact.specs.State.{Sound};

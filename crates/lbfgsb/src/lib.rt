@@ -1,5 +1,7 @@
 // The exported operations: any state, area, log, record and slice length, in any order. State goes in and comes back by value.
 // Each names its refusals in the order in which they are checked. A refusal changes no word, unless it says otherwise; a read changes its output alone.
+#![tactic(auto)]
+
 ghost use Rattle.std.specs.Prelude.{◌≡◌, List, ℕ, ◌+◌, ◌-◌, ◌*◌, length};
 ghost use Rattle.definition.specs.History.{Call};
 ghost use Rattle.fit.specs.declared.Fit.{Fit};

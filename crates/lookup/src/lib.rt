@@ -1,4 +1,6 @@
 // Reading state, area and log: the entries of the log, and the record.
+#![tactic(auto)]
+
 ghost use Rattle.std.specs.Prelude.{◌≡◌, ◌+◌, ◌-◌, ◌*◌, ◌≤◌, length, take, drop};
 ghost use Rattle.definition.specs.Problem.{most_coordinates};
 ghost use Rattle.question.specs.Reports.{written as written_first};

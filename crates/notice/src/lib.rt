@@ -1,4 +1,6 @@
 // What follows an iteration notice that is answered with "go on": the budget, convergence, the next iteration.
+#![tactic(auto)]
+
 ghost use Rattle.std.specs.Prelude.{◌≤◌, length};
 ghost use Rattle.definition.specs.Problem.{most_coordinates};
 ghost use Rattle.definition.specs.Driver.{on_go_on};

@@ -1,4 +1,6 @@
 // The opening of a fit: its setup into options and area, and the machine at its first question.
+#![tactic(auto)]
+
 ghost use Rattle.std.specs.Prelude.{◌≡◌, ◌*◌, ◌≤◌, true, length};
 ghost use Rattle.area.specs.Area.{view, upd, first_pair, vector_x};
 ghost use Rattle.problem.specs.Setups.{setup_in};

@@ -1,4 +1,6 @@
 // `Problem`, `Common` and `LbfgsbOptions`: the setup of a fit, its checks in their order, and the values that apply.
+#![tactic(auto)]
+
 ghost use Rattle.std.specs.Prelude.{◌≡◌, ◌<◌, ◌||◌, List, length, Float};
 ghost use Rattle.std.specs.Float.Ieee.{eq};
 ghost use Rattle.definition.specs.Number.{infinity, neg_infinity};

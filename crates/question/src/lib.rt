@@ -1,4 +1,6 @@
 // The open question, and the report.
+#![tactic(auto)]
+
 ghost use Rattle.std.specs.Prelude.{◌≡◌, ◌+◌, ◌*◌, ◌≤◌, ◌<◌, length};
 ghost use Rattle.definition.specs.Gradient.{probes_at};
 ghost use Rattle.definition.specs.Machine.{InRange, probe_point, status_of, unreported as unreported_in, question as question_of, report_now as report_in};

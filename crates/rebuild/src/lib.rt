@@ -1,4 +1,6 @@
 // The fit of a setup and entries, built anew: from the log, or from a record.
+#![tactic(auto)]
+
 ghost use Rattle.std.specs.Prelude.{◌≡◌, true, ◌+◌, ◌-◌, ◌*◌, ◌≤◌, length, take, drop};
 ghost use Rattle.std.proofs.Math.Option.{none};
 ghost use Rattle.definition.specs.Record.{words_of, setup_in as setup_read};

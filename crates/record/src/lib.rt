@@ -1,4 +1,6 @@
 // The record: its words as bytes, both sums, the setup in words; reading up to the entries, with every refusal in order, and writing.
+#![tactic(auto)]
+
 ghost use Rattle.std.specs.Prelude.{◌≡◌, ◌+◌, ◌-◌, ◌*◌, ◌<◌, ◌≤◌, true, ◌++◌, map, length, take, drop, replicate, if◌then◌else◌, slice_index, slice_range};
 ghost use Rattle.definition.specs.Number.{to_word, zero64};
 ghost use Rattle.definition.specs.Problem.{validate, or_else};

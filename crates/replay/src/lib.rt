@@ -1,4 +1,6 @@
 // Replaying entries: from a log, or from the words of a record, through the driver.
+#![tactic(auto)]
+
 ghost use Rattle.std.specs.Prelude.{◌≡◌, true, ◌&&◌, map, ◌+◌, ◌*◌, ◌≤◌, ◌<◌, ltb, length, get_or, take, drop};
 ghost use Rattle.definition.specs.Number.{to_float};
 ghost use Rattle.definition.specs.Problem.{most_coordinates};

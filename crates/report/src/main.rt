@@ -1,4 +1,6 @@
 // The report program: a record on standard input, its report on standard output. One byte more than 65,536 is enough to refuse.
+#![tactic(auto)]
+
 use libc::{STDIN_FILENO, STDOUT_FILENO};
 
 fn main() {

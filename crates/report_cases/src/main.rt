@@ -1,5 +1,7 @@
 // Writes what the report program prints for each input of a file, which the first argument names; `oracle/README.md`, "The list of
 // reports", has its format.
+#![tactic(auto)]
+
 use libc::STDOUT_FILENO;
 
 // The next input: a word of how many zero bytes it begins with, a word of how many bytes follow, and these. Whether it came whole.

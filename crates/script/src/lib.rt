@@ -1,4 +1,6 @@
 // Runs a script of calls of the exported operations, three words to a call, each at the words that the last one left.
+#![tactic(auto)]
+
 ghost use Rattle.std.specs.Prelude.{◌≡◌, List, ℕ, ◌+◌, ◌*◌, ◌<◌, length};
 ghost use Rattle.definition.specs.History.{Call};
 ghost use Rattle.problem.specs.Setups.{setup_in};

@@ -2,6 +2,8 @@
 // that just holds the fit, a log that just holds its five replies, and a state of junk. Of each script the last answer is written, one line
 // each: its number (0 nothing, 1 done, 2 refused, 3 no question, 4 question, 5 report, 6 replies, 7 entry, 8 save) and what comes with it.
 // Of a refusal that is its number and both details, so that these stand in the expected output as document 01 has them: 14 and 3 (expected, found).
+#![tactic(auto)]
+
 use cases::{after, least};
 use lbfgsb::Fit;
 use libc::STDOUT_FILENO;

@@ -1,4 +1,6 @@
 // The step search along a direction: one record from question to question, and what it hands back after a trial.
+#![tactic(auto)]
+
 ghost use Rattle.std.specs.Prelude.{not, cond, ◌&&◌, ◌||◌, ◌≡◌};
 ghost use Rattle.std.proofs.Math.Option.{some};
 ghost use Rattle.std.specs.Float.Ieee as Ieee;

@@ -1,4 +1,6 @@
 // `solve`: Gauss elimination with the pivots of the definition, on a matrix taken by value. One function for each definition.
+#![tactic(auto)]
+
 ghost use Rattle.std.specs.Prelude.{◌≡◌, cond, true, false, ◌+◌, ◌-◌, ◌≤◌, ◌<◌, length};
 ghost use Rattle.std.specs.Float.Ieee.{is_nan};
 ghost use Rattle.definition.specs.Number.{times, over, abs as abs_of, max as max_of, to_word, magnitude_le};

@@ -1,4 +1,6 @@
 // The minimum over the free coordinates of the Cauchy point, and the end that the direction leads to.
+#![tactic(auto)]
+
 ghost use Rattle.std.specs.Prelude.{◌≡◌, cond, ℕ, ◌+◌, ◌*◌, ◌≤◌, ◌<◌, length, replicate, Float};
 ghost use Rattle.std.specs.Float.Ieee as Ieee;
 ghost use Rattle.definition.specs.Number.{plus, times, zero64, neg_zero};

@@ -1,4 +1,6 @@
 // The text of the report program: what it prints for an input's bytes.
+#![tactic(auto)]
+
 ghost use Rattle.std.specs.Prelude.{◌≡◌, ◌+◌, ◌*◌, ◌≤◌, length, take};
 ghost use Rattle.definition.specs.Programs.{input_coordinates, input_area, input_log, printed};
 ghost use Rattle.question.specs.Reports.{report_of, written};

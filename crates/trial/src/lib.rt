@@ -1,4 +1,6 @@
 // From the point held to a trial: the tests of convergence, the trial point, and the start of the step search.
+#![tactic(auto)]
+
 ghost use Rattle.std.specs.Prelude.{◌≡◌, ◌*◌, ◌≤◌, ◌<◌, length, Float};
 ghost use Rattle.definition.specs.Number.{max as max_of};
 ghost use Rattle.definition.specs.Search.{limit_of as limit_on, begin_search, trial_point, or_failed};

@@ -1,4 +1,6 @@
 // A worked fit through the exported operations: the least of (x - 1)^2 + 10 (y + 1/2)^2 where x is at most 1/2, from (-1, 1).
+#![tactic(auto)]
+
 use lbfgsb::{Answer, Asked, Fit, Options, Outcome, Reply, Told};
 use libc::STDOUT_FILENO;
 

@@ -1,0 +1,8 @@
+-- `float::infinity` meets its contract: 1 / 0, by computation. Assumes nothing.
+use mathlib.Core.Path.{refl}
+use lib.Ieee.{of_bits, div}
+use Rattle.float.proofs.infinity.Goals as goal
+
+pub returns : goal.returns
+unfolding of_bits div
+returns c = refl
