@@ -1,0 +1,16 @@
+-- `area::fill` meets its contract; in its loop word i of vector p becomes v. Assumes nothing.
+use Prim.Native.Nat.{◌-◌}
+use native.Mathlib.Omega.{arith}
+use Rattle.area.proofs.Laws.{Row, row_none, laws}
+use Rattle.area.specs.Area.{fill_of}
+use Rattle.area.proofs.fill.Goals as goal
+
+pub loop-i-init : goal.loop-i-init
+loop-i-init c = row_none (omega arith)
+
+pub loop-i-preserved : goal.loop-i-preserved
+loop-i-preserved c = search laws
+
+pub returns : goal.returns
+unfolding fill_of
+returns c = search laws

@@ -1,0 +1,7 @@
+-- `area::put` meets its contract. Assumes nothing.
+use borrow.Author.Rules.{rules}
+use Rattle.area.proofs.Laws.{view-set}
+use Rattle.area.proofs.put.Goals as goal
+
+pub returns : goal.returns
+returns c = search view-set
