@@ -16,6 +16,7 @@ ghost use Rattle.cauchy.specs.State.{travelled_of, Travels, Begins, Points, Path
 
 // When a coordinate meets its bound.
 #[derive(Drop)]
+#[derive(Clone, Copy)]
 pub struct BreakTime {
     pub time: f64,
     pub coordinate: usize,
@@ -23,6 +24,7 @@ pub struct BreakTime {
 
 // The finite break times, in order, in the first `count` places.
 #[derive(Drop)]
+#[derive(Clone, Copy)]
 pub struct Breaks {
     pub list: [BreakTime; problem::MOST_COORDINATES],
     pub count: usize,
@@ -30,6 +32,7 @@ pub struct Breaks {
 
 // The time of the last break passed, and how many are passed.
 #[derive(Drop)]
+#[derive(Clone, Copy)]
 pub struct Path {
     pub previous: f64,
     pub event: usize,
@@ -37,6 +40,7 @@ pub struct Path {
 
 // A segment ends the path, with the Cauchy point in its vector or without, or leads on.
 #[derive(Drop)]
+#[derive(Clone, Copy)]
 pub enum Segment {
     Ended(bool),
     Onward(Path),

@@ -14,6 +14,7 @@ ghost use Rattle.compact.specs.State.{block_to, Laid, PairsKept, Prepared, Multi
 
 // What the places of the pairs rest on: n coordinates, m places, how many are used, and which is the oldest.
 #[derive(Drop)]
+#[derive(Clone, Copy)]
 pub struct Shape {
     pub n: usize,
     pub m: usize,
@@ -23,6 +24,7 @@ pub struct Shape {
 
 // The pairs and theta after an update.
 #[derive(Drop)]
+#[derive(Clone, Copy)]
 pub struct Updated {
     pub shape: Shape,
     pub theta: f64,

@@ -10,6 +10,7 @@ ghost use Rattle.counters.specs.Counts.{counters_of, termination_of, charge_of, 
 use problem::Limits;
 
 #[derive(Drop)]
+#[derive(Clone, Copy)]
 pub enum Termination {
     GTol,
     FTol,
@@ -25,6 +26,7 @@ pub enum Termination {
 pub const MOST_COUNTED: usize = 0x4000_0000_0000_0000;
 
 #[derive(Drop)]
+#[derive(Clone, Copy)]
 pub struct Counters {
     pub nit: usize,
     pub nfev: usize,
@@ -33,6 +35,7 @@ pub struct Counters {
 
 // What a value question costs: the counters with it charged, or nothing where the budget is spent.
 #[derive(Drop)]
+#[derive(Clone, Copy)]
 pub enum Charge {
     Spent,
     Charged(Counters),

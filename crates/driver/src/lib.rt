@@ -16,6 +16,7 @@ use problem::Checked;
 
 // A reply; the words of a gradient stand in the area, as the trial's gradient.
 #[derive(Drop)]
+#[derive(Clone, Copy)]
 pub enum Reply {
     Value(u64),
     Gradient,

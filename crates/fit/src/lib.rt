@@ -14,12 +14,14 @@ use search::Search;
 
 // Where a value and a gradient are asked: at the start, or at a trial of the search.
 #[derive(Drop)]
+#[derive(Clone, Copy)]
 pub enum Place {
     Start,
     Trial,
 }
 
 #[derive(Drop)]
+#[derive(Clone, Copy)]
 pub enum Side {
     Right,
     Left,
@@ -27,6 +29,7 @@ pub enum Side {
 
 // What is asked: the value at a place, its gradient, the value at a probe of a coordinate, the notice; or nothing more.
 #[derive(Drop)]
+#[derive(Clone, Copy)]
 pub enum Phase {
     Value(Place),
     Gradient(Place),
@@ -37,6 +40,7 @@ pub enum Phase {
 
 // What is counted of the log, and not the machine's: the entries kept, and their words.
 #[derive(Drop)]
+#[derive(Clone, Copy)]
 pub struct Extra {
     pub entries: usize,
     pub words: usize,
@@ -47,6 +51,7 @@ pub const MOST_WORDS: usize = 0x0100_0000_0000_0000;
 
 // The state of a fit but for its vectors, which stand in the area.
 #[derive(Drop)]
+#[derive(Clone, Copy)]
 pub struct Fit {
     pub shape: Shape,
     pub options: Options,

@@ -15,6 +15,7 @@ use problem::{MaybeFloat, Scheme};
 
 // What is probed of a coordinate, with the points: right before left.
 #[derive(Drop)]
+#[derive(Clone, Copy)]
 pub enum Probes {
     Neither,
     Both(f64, f64),

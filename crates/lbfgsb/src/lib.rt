@@ -22,6 +22,7 @@ pub use question::Outcome;
 
 // The state to go on with, or a refusal: then it is the one that was given.
 #[derive(Drop)]
+#[derive(Clone, Copy)]
 pub enum Answer {
     Kept(Fit),
     Refused(Refusal),
@@ -29,6 +30,7 @@ pub enum Answer {
 
 // The kind of the open question (1 value, 2 gradient, 3 notice), its point in the output.
 #[derive(Drop)]
+#[derive(Clone, Copy)]
 pub enum Asked {
     Nothing,
     Is(usize),
@@ -37,6 +39,7 @@ pub enum Asked {
 
 // The report, its point in the output.
 #[derive(Drop)]
+#[derive(Clone, Copy)]
 pub enum Told {
     Is(Outcome),
     Refused(Refusal),
@@ -44,6 +47,7 @@ pub enum Told {
 
 // How many words or bytes were written to the output.
 #[derive(Drop)]
+#[derive(Clone, Copy)]
 pub enum Wrote {
     Is(usize),
     Refused(Refusal),

@@ -24,18 +24,21 @@ pub const MOST_BUDGET: usize = 1_000_000;
 
 // `FiniteDifference`
 #[derive(Drop)]
+#[derive(Clone, Copy)]
 pub enum Scheme {
     Forward,
     Central,
 }
 
 #[derive(Drop)]
+#[derive(Clone, Copy)]
 pub enum MaybeFloat {
     Absent,
     Given(f64),
 }
 
 #[derive(Drop)]
+#[derive(Clone, Copy)]
 pub enum MaybeCount {
     Absent,
     Given(usize),
@@ -43,6 +46,7 @@ pub enum MaybeCount {
 
 // The setup but for its vectors, as it was given.
 #[derive(Drop)]
+#[derive(Clone, Copy)]
 pub struct Options {
     pub bounded: bool,
     pub maxiter: MaybeCount,
@@ -57,6 +61,7 @@ pub struct Options {
 
 // The limits in force.
 #[derive(Drop)]
+#[derive(Clone, Copy)]
 pub struct Limits {
     pub ftol: f64,
     pub gtol: f64,
@@ -66,6 +71,7 @@ pub struct Limits {
 
 // A number of document 01's table, with two details, 0 where unnamed.
 #[derive(Drop)]
+#[derive(Clone, Copy)]
 pub struct Refusal {
     pub number: usize,
     pub first: usize,
@@ -73,6 +79,7 @@ pub struct Refusal {
 }
 
 #[derive(Drop)]
+#[derive(Clone, Copy)]
 pub enum Checked {
     Passed,
     Refused(Refusal),

@@ -16,6 +16,7 @@ use gradient::Probes;
 
 // `Outcome`: the report but for its point.
 #[derive(Drop)]
+#[derive(Clone, Copy)]
 pub struct Outcome {
     pub status: usize,
     pub value: f64,

@@ -14,6 +14,7 @@ use lbfgsb::{Answer, Asked, Fit, Options, Outcome, Refusal, Reply, Told, Wrote};
 
 // What the last call answered; its point, words or bytes stand in the outputs.
 #[derive(Drop)]
+#[derive(Clone, Copy)]
 pub enum Shown {
     Nothing,
     Done,
@@ -27,6 +28,7 @@ pub enum Shown {
 }
 
 #[derive(Drop)]
+#[derive(Clone, Copy)]
 pub struct Ran {
     pub fit: Fit,
     pub last: Shown,
@@ -34,6 +36,7 @@ pub struct Ran {
 
 // The words of a call.
 #[derive(Drop)]
+#[derive(Clone, Copy)]
 struct Called {
     op: u64,
     a: u64,
@@ -42,6 +45,7 @@ struct Called {
 
 // A part of a slice.
 #[derive(Drop)]
+#[derive(Clone, Copy)]
 struct Span {
     from: usize,
     to: usize,

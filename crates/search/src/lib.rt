@@ -12,6 +12,7 @@ ghost use Rattle.search.specs.State.{search_of, high_of, limit_of, verdict_of, S
 
 // The step, the two ends, the slope at the point held and the limit of the step.
 #[derive(Drop)]
+#[derive(Clone, Copy)]
 pub struct Step {
     pub alpha: f64,
     pub low: f64,
@@ -22,6 +23,7 @@ pub struct Step {
 
 // The number of the trial, whether the limit is where a bound is met, and whether there is a high end.
 #[derive(Drop)]
+#[derive(Clone, Copy)]
 pub struct Trials {
     pub count: usize,
     pub face: bool,
@@ -30,6 +32,7 @@ pub struct Trials {
 
 // The search: its record of floats, and the trials beside it.
 #[derive(Drop)]
+#[derive(Clone, Copy)]
 pub struct Search {
     pub step: Step,
     pub trials: Trials,
@@ -37,6 +40,7 @@ pub struct Search {
 
 // What the search hands back: the step is accepted, another trial, or it has failed.
 #[derive(Drop)]
+#[derive(Clone, Copy)]
 pub enum Verdict {
     Accepted,
     Another(Search),
@@ -45,6 +49,7 @@ pub enum Verdict {
 
 // The high end, where there is one.
 #[derive(Drop)]
+#[derive(Clone, Copy)]
 enum High {
     Open,
     At(f64),
@@ -52,6 +57,7 @@ enum High {
 
 // How far the box lets the step go.
 #[derive(Drop)]
+#[derive(Clone, Copy)]
 pub struct Limit {
     pub amax: f64,
     pub face: bool,

@@ -12,6 +12,7 @@ ghost use Rattle.solve.specs.Factors.{OrderInRange, cleared_to, forward_to, Elim
 
 // The solution in the first n places, where there is one.
 #[derive(Drop)]
+#[derive(Clone, Copy)]
 pub struct Answer {
     pub ok: bool,
     pub x: [f64; 32],
@@ -56,6 +57,7 @@ fn scale(matrix: &[[f64; 32]; 32], n: usize) -> f64
 
 // A row, and the word of the magnitude of its entry in the column.
 #[derive(Drop)]
+#[derive(Clone, Copy)]
 struct Best {
     row: usize,
     size: u64,
@@ -161,6 +163,7 @@ fn pivots(scale: f64, value: f64) -> bool
 
 // A column's pivot, where it has one: the row where it stood, and the multipliers of the rows below.
 #[derive(Drop)]
+#[derive(Clone, Copy)]
 struct Step {
     ok: bool,
     row: usize,
