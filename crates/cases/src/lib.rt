@@ -116,7 +116,6 @@ pub fn fetch(fd: i32, buf: &mut [u8], at: usize, words: usize) -> bool {
 }
 
 // The next word of a file.
-#[derive(Drop)]
 #[derive(Clone, Copy)]
 pub enum Next {
     Is(u64),

@@ -15,7 +15,6 @@ ghost use Rattle.cauchy.specs.State.{moves_up_in, moves_down_in, velocity_in, br
 ghost use Rattle.cauchy.specs.State.{travelled_of, Travels, Begins, Points, PathPoint, Segments};
 
 // When a coordinate meets its bound.
-#[derive(Drop)]
 #[derive(Clone, Copy)]
 pub struct BreakTime {
     pub time: f64,
@@ -23,7 +22,6 @@ pub struct BreakTime {
 }
 
 // The finite break times, in order, in the first `count` places.
-#[derive(Drop)]
 #[derive(Clone, Copy)]
 pub struct Breaks {
     pub list: [BreakTime; problem::MOST_COORDINATES],
@@ -31,7 +29,6 @@ pub struct Breaks {
 }
 
 // The time of the last break passed, and how many are passed.
-#[derive(Drop)]
 #[derive(Clone, Copy)]
 pub struct Path {
     pub previous: f64,
@@ -39,7 +36,6 @@ pub struct Path {
 }
 
 // A segment ends the path, with the Cauchy point in its vector or without, or leads on.
-#[derive(Drop)]
 #[derive(Clone, Copy)]
 pub enum Segment {
     Ended(bool),

@@ -13,7 +13,6 @@ ghost use Rattle.compact.specs.State.{pair_slot, column_slot, Sound, Slot, pairs
 ghost use Rattle.compact.specs.State.{block_to, Laid, PairsKept, Prepared, Multiplied, less_to};
 
 // What the places of the pairs rest on: n coordinates, m places, how many are used, and which is the oldest.
-#[derive(Drop)]
 #[derive(Clone, Copy)]
 pub struct Shape {
     pub n: usize,
@@ -23,7 +22,6 @@ pub struct Shape {
 }
 
 // The pairs and theta after an update.
-#[derive(Drop)]
 #[derive(Clone, Copy)]
 pub struct Updated {
     pub shape: Shape,

@@ -9,7 +9,6 @@ ghost use Rattle.counters.specs.Counts.{counters_of, termination_of, charge_of, 
 
 use problem::Limits;
 
-#[derive(Drop)]
 #[derive(Clone, Copy)]
 pub enum Termination {
     GTol,
@@ -25,7 +24,6 @@ pub enum Termination {
 // No count is near where a sum would wrap.
 pub const MOST_COUNTED: usize = 0x4000_0000_0000_0000;
 
-#[derive(Drop)]
 #[derive(Clone, Copy)]
 pub struct Counters {
     pub nit: usize,
@@ -34,7 +32,6 @@ pub struct Counters {
 }
 
 // What a value question costs: the counters with it charged, or nothing where the budget is spent.
-#[derive(Drop)]
 #[derive(Clone, Copy)]
 pub enum Charge {
     Spent,

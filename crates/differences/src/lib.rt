@@ -16,7 +16,6 @@ use fit::{Extra, Fit, Phase, Place, Side};
 use gradient::Probes;
 
 // What a value at a probe changes of a fit: the probe that is asked, the value right of it, what is charged, and the log's numbers.
-#[derive(Drop)]
 #[derive(Clone, Copy)]
 pub struct Probing {
     pub i: usize,
@@ -27,7 +26,6 @@ pub struct Probing {
 }
 
 // What follows: the next probe, the gradient complete, or the end of the fit; each with the numbers reached.
-#[derive(Drop)]
 #[derive(Clone, Copy)]
 pub enum Next {
     Probe(Probing),

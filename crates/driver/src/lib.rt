@@ -15,7 +15,6 @@ use fit::{Fit, Phase};
 use problem::Checked;
 
 // A reply; the words of a gradient stand in the area, as the trial's gradient.
-#[derive(Drop)]
 #[derive(Clone, Copy)]
 pub enum Reply {
     Value(u64),

@@ -13,14 +13,12 @@ use problem::{Limits, Options};
 use search::Search;
 
 // Where a value and a gradient are asked: at the start, or at a trial of the search.
-#[derive(Drop)]
 #[derive(Clone, Copy)]
 pub enum Place {
     Start,
     Trial,
 }
 
-#[derive(Drop)]
 #[derive(Clone, Copy)]
 pub enum Side {
     Right,
@@ -28,7 +26,6 @@ pub enum Side {
 }
 
 // What is asked: the value at a place, its gradient, the value at a probe of a coordinate, the notice; or nothing more.
-#[derive(Drop)]
 #[derive(Clone, Copy)]
 pub enum Phase {
     Value(Place),
@@ -39,7 +36,6 @@ pub enum Phase {
 }
 
 // What is counted of the log, and not the machine's: the entries kept, and their words.
-#[derive(Drop)]
 #[derive(Clone, Copy)]
 pub struct Extra {
     pub entries: usize,
@@ -50,7 +46,6 @@ pub struct Extra {
 pub const MOST_WORDS: usize = 0x0100_0000_0000_0000;
 
 // The state of a fit but for its vectors, which stand in the area.
-#[derive(Drop)]
 #[derive(Clone, Copy)]
 pub struct Fit {
     pub shape: Shape,

@@ -34,7 +34,6 @@ const DIFFERENT: usize = 4;
 
 // What a case shows: there is none; it is refused as in the list; it is the list's fit, of so many questions; or it differs, with whether
 // it is known where the next one starts.
-#[derive(Drop)]
 #[derive(Clone, Copy)]
 enum Verdict {
     Nothing,
@@ -117,7 +116,6 @@ fn is_report(s: &[u8], fit: Fit, area: &[f64]) -> bool {
 }
 
 // The kind of a question, the word at which its point starts, and the word after the question.
-#[derive(Drop)]
 #[derive(Clone, Copy)]
 struct Question {
     kind: u64,

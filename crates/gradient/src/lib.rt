@@ -14,7 +14,6 @@ ghost use Rattle.gradient.specs.Probing.{probes_in, step_for, probes_for};
 use problem::{MaybeFloat, Scheme};
 
 // What is probed of a coordinate, with the points: right before left.
-#[derive(Drop)]
 #[derive(Clone, Copy)]
 pub enum Probes {
     Neither,

@@ -21,7 +21,6 @@ pub use problem::{MaybeCount, MaybeFloat, Options, Refusal, Scheme, no_options};
 pub use question::Outcome;
 
 // The state to go on with, or a refusal: then it is the one that was given.
-#[derive(Drop)]
 #[derive(Clone, Copy)]
 pub enum Answer {
     Kept(Fit),
@@ -29,7 +28,6 @@ pub enum Answer {
 }
 
 // The kind of the open question (1 value, 2 gradient, 3 notice), its point in the output.
-#[derive(Drop)]
 #[derive(Clone, Copy)]
 pub enum Asked {
     Nothing,
@@ -38,7 +36,6 @@ pub enum Asked {
 }
 
 // The report, its point in the output.
-#[derive(Drop)]
 #[derive(Clone, Copy)]
 pub enum Told {
     Is(Outcome),
@@ -46,7 +43,6 @@ pub enum Told {
 }
 
 // How many words or bytes were written to the output.
-#[derive(Drop)]
 #[derive(Clone, Copy)]
 pub enum Wrote {
     Is(usize),

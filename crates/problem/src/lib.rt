@@ -23,21 +23,18 @@ pub const MOST_PAIRS: usize = 16;
 pub const MOST_BUDGET: usize = 1_000_000;
 
 // `FiniteDifference`
-#[derive(Drop)]
 #[derive(Clone, Copy)]
 pub enum Scheme {
     Forward,
     Central,
 }
 
-#[derive(Drop)]
 #[derive(Clone, Copy)]
 pub enum MaybeFloat {
     Absent,
     Given(f64),
 }
 
-#[derive(Drop)]
 #[derive(Clone, Copy)]
 pub enum MaybeCount {
     Absent,
@@ -45,7 +42,6 @@ pub enum MaybeCount {
 }
 
 // The setup but for its vectors, as it was given.
-#[derive(Drop)]
 #[derive(Clone, Copy)]
 pub struct Options {
     pub bounded: bool,
@@ -60,7 +56,6 @@ pub struct Options {
 }
 
 // The limits in force.
-#[derive(Drop)]
 #[derive(Clone, Copy)]
 pub struct Limits {
     pub ftol: f64,
@@ -70,7 +65,6 @@ pub struct Limits {
 }
 
 // A number of document 01's table, with two details, 0 where unnamed.
-#[derive(Drop)]
 #[derive(Clone, Copy)]
 pub struct Refusal {
     pub number: usize,
@@ -78,7 +72,6 @@ pub struct Refusal {
     pub second: usize,
 }
 
-#[derive(Drop)]
 #[derive(Clone, Copy)]
 pub enum Checked {
     Passed,

@@ -15,7 +15,6 @@ use fit::{Fit, Phase, Place, Side};
 use gradient::Probes;
 
 // `Outcome`: the report but for its point.
-#[derive(Drop)]
 #[derive(Clone, Copy)]
 pub struct Outcome {
     pub status: usize,

@@ -85,7 +85,6 @@ pub fn put_word(out: &mut [u8], at: usize, word: u64)
 // ---- the sums
 
 // The sum of words, and the sum of its running sums, each modulo 2^64.
-#[derive(Drop)]
 #[derive(Clone, Copy)]
 pub struct Sums {
     pub plain: u64,
@@ -157,7 +156,6 @@ pub fn entry_length(kind: u64, n: usize) -> usize
 // ---- reading
 
 // Where a record stands in its bytes: the byte of word 0, the words before the trailer, the coordinates and the words of the setup.
-#[derive(Drop)]
 #[derive(Clone, Copy)]
 pub struct Frame {
     pub at: usize,
@@ -167,7 +165,6 @@ pub struct Frame {
 }
 
 // What the checks ahead of the entries find.
-#[derive(Drop)]
 #[derive(Clone, Copy)]
 pub enum Parsed {
     Refused(Refusal),
@@ -291,7 +288,6 @@ fn scheme_in(word: u64) -> Scheme
 }
 
 // What word 0 of a setup says besides n.
-#[derive(Drop)]
 #[derive(Clone, Copy)]
 struct FirstWord {
     bounded: bool,

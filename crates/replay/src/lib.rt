@@ -20,7 +20,6 @@ use fit::{Fit, Phase, Place};
 use problem::Checked;
 
 // Where entries stand: the first words of a log, or words of a record from a byte on.
-#[derive(Drop)]
 #[derive(Clone, Copy)]
 pub struct Source {
     pub recorded: bool,
@@ -29,7 +28,6 @@ pub struct Source {
 }
 
 // An entry of a kind, with the words that it takes.
-#[derive(Drop)]
 #[derive(Clone, Copy)]
 pub enum Entry {
     Bad,
@@ -37,14 +35,12 @@ pub enum Entry {
 }
 
 // What stands where a probe is asked: the value, with the words of its entry, or anything else.
-#[derive(Drop)]
 #[derive(Clone, Copy)]
 enum Said {
     Other,
     Value(u64, usize),
 }
 
-#[derive(Drop)]
 #[derive(Clone, Copy)]
 pub enum Replayed {
     Done(Fit),

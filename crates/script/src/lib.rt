@@ -13,7 +13,6 @@ ghost use Rattle.script.specs.Script.{ran_as, asked_as, told_as, entered_as, sav
 use lbfgsb::{Answer, Asked, Fit, Options, Outcome, Refusal, Reply, Told, Wrote};
 
 // What the last call answered; its point, words or bytes stand in the outputs.
-#[derive(Drop)]
 #[derive(Clone, Copy)]
 pub enum Shown {
     Nothing,
@@ -27,7 +26,6 @@ pub enum Shown {
     Saved(usize),
 }
 
-#[derive(Drop)]
 #[derive(Clone, Copy)]
 pub struct Ran {
     pub fit: Fit,
@@ -35,7 +33,6 @@ pub struct Ran {
 }
 
 // The words of a call.
-#[derive(Drop)]
 #[derive(Clone, Copy)]
 struct Called {
     op: u64,
@@ -44,7 +41,6 @@ struct Called {
 }
 
 // A part of a slice.
-#[derive(Drop)]
 #[derive(Clone, Copy)]
 struct Span {
     from: usize,

@@ -11,7 +11,6 @@ ghost use Rattle.definition.specs.Driver.{no_search};
 ghost use Rattle.search.specs.State.{search_of, high_of, limit_of, verdict_of, Settled, VerdictSettled};
 
 // The step, the two ends, the slope at the point held and the limit of the step.
-#[derive(Drop)]
 #[derive(Clone, Copy)]
 pub struct Step {
     pub alpha: f64,
@@ -22,7 +21,6 @@ pub struct Step {
 }
 
 // The number of the trial, whether the limit is where a bound is met, and whether there is a high end.
-#[derive(Drop)]
 #[derive(Clone, Copy)]
 pub struct Trials {
     pub count: usize,
@@ -31,7 +29,6 @@ pub struct Trials {
 }
 
 // The search: its record of floats, and the trials beside it.
-#[derive(Drop)]
 #[derive(Clone, Copy)]
 pub struct Search {
     pub step: Step,
@@ -39,7 +36,6 @@ pub struct Search {
 }
 
 // What the search hands back: the step is accepted, another trial, or it has failed.
-#[derive(Drop)]
 #[derive(Clone, Copy)]
 pub enum Verdict {
     Accepted,
@@ -48,7 +44,6 @@ pub enum Verdict {
 }
 
 // The high end, where there is one.
-#[derive(Drop)]
 #[derive(Clone, Copy)]
 enum High {
     Open,
@@ -56,7 +51,6 @@ enum High {
 }
 
 // How far the box lets the step go.
-#[derive(Drop)]
 #[derive(Clone, Copy)]
 pub struct Limit {
     pub amax: f64,

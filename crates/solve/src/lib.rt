@@ -11,7 +11,6 @@ ghost use Rattle.solve.specs.Answers.{answer_of};
 ghost use Rattle.solve.specs.Factors.{OrderInRange, cleared_to, forward_to, Eliminates, Clears, Triangular, regular as regular_of, Factored, solved_with};
 
 // The solution in the first n places, where there is one.
-#[derive(Drop)]
 #[derive(Clone, Copy)]
 pub struct Answer {
     pub ok: bool,
@@ -56,7 +55,6 @@ fn scale(matrix: &[[f64; 32]; 32], n: usize) -> f64
 }
 
 // A row, and the word of the magnitude of its entry in the column.
-#[derive(Drop)]
 #[derive(Clone, Copy)]
 struct Best {
     row: usize,
@@ -162,7 +160,6 @@ fn pivots(scale: f64, value: f64) -> bool
 }
 
 // A column's pivot, where it has one: the row where it stood, and the multipliers of the rows below.
-#[derive(Drop)]
 #[derive(Clone, Copy)]
 struct Step {
     ok: bool,
