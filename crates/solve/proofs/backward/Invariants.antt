@@ -1,0 +1,14 @@
+-- `solve::backward` meets its contract; in its loop the last d places are known. Assumes nothing.
+use Prim.Native.Nat.{◌-◌, ◌+◌}
+use lib.Ieee.{of_bits}
+use lib.ListN.{length, replicate}
+use Rattle.definition.specs.Number.{zero64}
+use Rattle.definition.specs.Solve.{system, back_row, backward}
+use Rattle.area.proofs.Laws.{Looped, looped_none, laws}
+use Rattle.solve.proofs.backward.Given as goal
+
+abbrev pub invariant-loop-done : goal.invariant-loop-done
+invariant-loop-done l = Looped l.n (λ d x. back_row l.n (system l.matrix l.right) (l.n - (d + 1)) x) (replicate (length l.right) zero64) l.x l.done
+
+abbrev pub decreases-loop-done : goal.decreases-loop-done
+decreases-loop-done l = l.n - l.done

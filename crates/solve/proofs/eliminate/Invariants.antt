@@ -1,0 +1,14 @@
+-- `solve::eliminate` meets its contract; in its loop the first d rows below k are done, and row k is p. Assumes nothing.
+use mathlib.Core.Path.{◌≡◌, refl, ◌∙◌}
+use Prim.Native.Nat.{◌-◌}
+use native.Mathlib.Omega.{arith}
+use Rattle.definition.specs.Solve.{row}
+use Rattle.area.proofs.Laws.{laws}
+use Rattle.solve.proofs.Steps.{Eliminating, eliminating_none, eliminating_more, eliminating_done}
+use Rattle.solve.proofs.eliminate.Given as goal
+
+abbrev pub invariant-loop-past : goal.invariant-loop-past
+invariant-loop-past l = Eliminating l.n l.k l.initial.matrix l.multipliers l.matrix l.past × (row l.matrix l.k ≡ l.top)
+
+abbrev pub decreases-loop-past : goal.decreases-loop-past
+decreases-loop-past l = l.rows - l.past

@@ -1,0 +1,9 @@
+-- `solve::solve` meets its contract: factored, and solved with the factors. Assumes nothing.
+use mathlib.Core.Path.{refl, ◌∙◌}
+use native.Mathlib.Omega.{arith}
+use borrow.Author.Rules.{rules}
+use Rattle.solve.proofs.Steps.{factors_solve}
+use Rattle.solve.proofs.solve.Goals as goal
+
+pub returns : goal.returns
+returns c = c.solve_with.ensures ∙ factors_solve _ c.factor-rows.ensures
