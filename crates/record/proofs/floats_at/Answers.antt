@@ -1,0 +1,10 @@
+-- `record::floats_at` meets its contract: the first i floats are laid. Assumes nothing.
+use Rattle.std.proofs.Common.{◌-◌}
+use Rattle.record.proofs.Floats.{Filling, filling_none, laws}
+use Rattle.record.proofs.floats_at.Goals as goal
+
+pub loop-i-init : goal.loop-i-init
+loop-i-init c = filling_none _ _ _ _ c.zeros-floats.ensures
+
+pub loop-i-preserved : goal.loop-i-preserved
+loop-i-preserved c = search laws
