@@ -1,0 +1,29 @@
+-- `compact::block_entry` meets its contract: below the diagonal by symmetry, otherwise by the row's half and the column's. Assumes nothing.
+use mathlib.Core.Path.{ap}
+use Prim.Native.Nat.{◌≤◌}
+use native.Mathlib.Omega.{arith}
+use borrow.Author.Rules.{rules}
+use borrow.Author.Tests.{lt-ltb, le-ltb}
+use Rattle.definition.specs.Number.{times}
+use Rattle.definition.specs.Compact.{block_entry}
+use Rattle.compact.proofs.Laws.{pairs_count}
+use Rattle.compact.proofs.Mirror.{from_above}
+use Rattle.compact.proofs.block_entry.Goals as goal
+
+pub returns-then-j-i : goal.returns-then-j-i
+returns-then-j-i c = from_above _ _ _ _ _ _ c.requires.3 c.if-j-i.true c.requires.1
+
+pub returns-then-j-pairs : goal.returns-then-j-pairs
+unfolding block_entry
+returns-then-j-pairs c = rw (pairs_count, lt-ltb _ _ c.if-i-pairs.true, lt-ltb _ _ c.if-j-pairs.true) c.diagonal.ensures
+
+pub returns-then-i-pairs : goal.returns-then-i-pairs
+unfolding block_entry
+returns-then-i-pairs c = rw (pairs_count, lt-ltb _ _ c.if-i-pairs.true, le-ltb _ _ c.if-j-pairs.false) c.lower.ensures
+
+pub returns : goal.returns
+unfolding block_entry
+returns c =
+    let a = c.args in
+    let k : a.shape.pairs ≤ a.j = omega arith in
+    rw (pairs_count, le-ltb _ _ c.if-i-pairs.false, le-ltb _ _ k) (ap (times _) c.s_dot_s.ensures)

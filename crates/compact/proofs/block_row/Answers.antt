@@ -1,0 +1,15 @@
+-- `compact::block_row` meets its contract: the first j entries are made. Assumes nothing.
+use Prim.Native.Nat.{◌-◌, ◌*◌}
+use native.Mathlib.Omega.{arith}
+use Rattle.definition.specs.Number.{zero64}
+use Rattle.definition.specs.Compact.{block_entry}
+use Rattle.area.specs.Area.{view}
+use Rattle.compact.specs.State.{compact_of}
+use Rattle.compact.proofs.Laws.{Padding, padding_none, laws}
+use Rattle.compact.proofs.block_row.Goals as goal
+
+pub loop-j-init : goal.loop-j-init
+loop-j-init c = padding_none (omega arith) c.zeros-row.ensures
+
+pub loop-j-preserved : goal.loop-j-preserved
+loop-j-preserved c = search laws

@@ -1,0 +1,15 @@
+-- `compact::lay_columns` meets its contract: the first k columns are laid out, and the pairs stay. Assumes nothing.
+use mathlib.Core.Path.{◌≡◌, refl, ◌∙◌}
+use Prim.Native.Nat.{◌-◌, ◌*◌}
+use native.Mathlib.Omega.{arith}
+use lib.ListN.{length}
+use Rattle.area.specs.Area.{view}
+use Rattle.compact.proofs.Laws.{laws}
+use Rattle.compact.proofs.Columns.{Laying, laying_none, laying_more, laying_done}
+use Rattle.compact.proofs.lay_columns.Given as goal
+
+abbrev pub invariant-loop-column : goal.invariant-loop-column
+invariant-loop-column l = Laying l.shape l.theta (view l.initial.area l.shape.n) (view l.area l.shape.n) l.column × (length l.area ≡ length l.initial.area)
+
+abbrev pub decreases-loop-column : goal.decreases-loop-column
+decreases-loop-column l = 2 * l.shape.pairs - l.column

@@ -1,0 +1,7 @@
+-- `compact::pair_slot` meets its contract. Assumes nothing.
+use native.Mathlib.Omega.{arith}
+use Rattle.compact.proofs.Laws.{slot_is}
+use Rattle.compact.proofs.pair_slot.Goals as goal
+
+pub returns : goal.returns
+returns c = slot_is _ _ _ _ c.requires.0 c.requires.1 c.place_slot.ensures

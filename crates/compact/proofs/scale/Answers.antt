@@ -1,0 +1,15 @@
+-- `compact::scale` meets its contract: word i of vector p becomes w times that of q. Assumes nothing.
+use Prim.Native.Nat.{◌-◌}
+use native.Mathlib.Omega.{arith}
+use Rattle.definition.specs.Number.{times}
+use Rattle.area.proofs.Laws.{Row, row_none, laws}
+use Rattle.compact.proofs.scale.Goals as goal
+
+pub loop-i-init : goal.loop-i-init
+loop-i-init c = row_none (omega arith)
+
+pub loop-i-preserved : goal.loop-i-preserved
+loop-i-preserved c = search laws
+
+pub returns : goal.returns
+returns c = search laws
