@@ -59,7 +59,7 @@ phased e = same_fit e (record { shape = refl; kept = record { options = refl; ex
 
 -- one of the first sixteen vectors replaced
 pub pairs_kept : (h : Shape) (v : Vecs) (p : ℕ) (w : List Float) → p < first_pair → pairs_of h (upd v p w) ≡ pairs_of h v
-pairs_kept h v p w l = models.pairs-kept h v (upd v p w) (models.high-upd v p w l)
+pairs_kept h v p w l = models.pairs_kept h v (upd v p w) (models.high_upd v p w l)
 
 pub put : (t : Fit) (v : Vecs) (p : ℕ) (w : List Float) → p < first_pair → machine t (upd v p w) ≡ machine_with (pairs_of t.shape v) t (upd v p w)
 put t v p w l = ap (λ (ps : List Pair). machine_with ps t (upd v p w)) (pairs_kept t.shape v p w l)
@@ -82,7 +82,7 @@ same t v w e h = ap (λ (ps : List Pair). machine_with ps t w) e ∙ low_same (p
 
 -- only scratch is written
 pub scratch_same : (t : Fit) {v w : Vecs} → ScratchOnly v w → machine t w ≡ machine t v
-scratch_same t {v} {w} h = same t v w (models.pairs-kept t.shape v w h.high) h.low
+scratch_same t {v} {w} h = same t v w (models.pairs_kept t.shape v w h.high) h.low
 
 -- the pairs stand below the columns
 pub pairs_same : (h : Shape) {size : ℕ} (v w : Vecs) → Sound h size → ((q : ℕ) → first_pair ≤ q → q < first_column h.m → w q ≡ v q) → pairs_of h w ≡ pairs_of h v

@@ -10,7 +10,7 @@ use Rattle.lbfgsb.proofs.Trace.{Called, after}
 
 held_in_order : {w : Words} {b : Book} → Held w b → HoldsInOrder w b
 held_in_order {b = b} h =
-    let o = ordered.in_order b in
+    let o = ordered.in_order_lem b in
     let k = h.stands in
     record { book = o; entries = k.entries ∙ sym o.count; machine = k.is ∙ o.machine; log = k.log ∙ o.log }
 
