@@ -1,4 +1,3 @@
 pub mod Order
 pub mod Paths
 pub mod Segments
-pub mod Cells
