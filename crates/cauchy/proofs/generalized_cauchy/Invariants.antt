@@ -1,0 +1,16 @@
+-- `cauchy::generalized_cauchy` meets its contract: the path is on its way from its start. Assumes nothing.
+use mathlib.Core.Path.{◌≡◌, refl, ◌∙◌}
+use borrow.Author.Rules.{rules}
+use lib.ListN.{length}
+use Rattle.area.specs.Area.{view}
+use Rattle.area.proofs.Laws.{scratch_trans}
+use Rattle.compact.proofs.Models.{prepared_kept}
+use Rattle.cauchy.proofs.Segments.{Walking, walking_none, walking_more, walking_ends, walking_stops, walks}
+use Rattle.cauchy.proofs.generalized_cauchy.Given as goal
+
+abbrev pub invariant-loop-ok : goal.invariant-loop-ok
+invariant-loop-ok l =
+    Walking l.shape l.theta l.breaks l.initial.remaining l.initial.path (view l.initial.area l.shape.n) l.remaining l.path (view l.area l.shape.n) × (length l.area ≡ length l.initial.area)
+
+abbrev pub decreases-loop-ok : goal.decreases-loop-ok
+decreases-loop-ok l = l.remaining

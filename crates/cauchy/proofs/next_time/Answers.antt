@@ -1,0 +1,11 @@
+-- `cauchy::next_time` meets its contract: the break that is read, or none. Assumes nothing.
+use mathlib.Core.Path.{sym, ap, ◌∙◌}
+use native.Mathlib.Omega.{arith}
+use Rattle.definition.specs.Geometry.{Break}
+use Rattle.cauchy.specs.State.{break_of}
+use Rattle.cauchy.proofs.Order.{break_get, break_past}
+use borrow.Author.Rules.{rules}
+use Rattle.cauchy.proofs.next_time.Goals as goal
+
+pub returns-then-event-breaks : goal.returns-then-event-breaks
+returns-then-event-breaks c = ap (λ (d : Break). d.time) (ap break_of c.entry-entry.ensures ∙ sym (break_get _ _ c.if-event-breaks.true (omega arith)))
