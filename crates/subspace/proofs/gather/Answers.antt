@@ -1,0 +1,21 @@
+-- `subspace::gather` meets its contract: the first j words are gathered. Assumes nothing.
+use mathlib.Core.Path.{ap, ◌∙◌}
+use Prim.Native.Nat.{◌-◌, ◌*◌}
+use native.Mathlib.Omega.{arith}
+use Rattle.definition.specs.Number.{zero64}
+use Rattle.area.specs.Area.{words_at}
+use Rattle.compact.specs.State.{column_slot}
+use Rattle.compact.proofs.Laws.{Padding, padding_none, padding_more, vector_room, laws}
+use Rattle.subspace.proofs.gather.Goals as goal
+
+pub loop-j-init : goal.loop-j-init
+loop-j-init c = padding_none (omega arith) c.zeros-row.ensures
+
+pub get-requires : goal.get-requires
+get-requires c = (vector_room _ c.requires.0 (omega arith), omega arith)
+
+pub loop-j-preserved : goal.loop-j-preserved
+loop-j-preserved c =
+    let a = c.args in
+    padding_more c.loop-j.invariant (omega arith)
+    (c.get.ensures ∙ ap (words_at a.area.now a.shape.n a.i) c.column_slot.ensures)

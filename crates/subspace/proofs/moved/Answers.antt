@@ -1,0 +1,17 @@
+-- `subspace::moved` meets its contract: the first i words are moved. Assumes nothing.
+use Prim.Native.Nat.{◌-◌}
+use native.Mathlib.Omega.{arith}
+use Rattle.area.specs.Area.{vector_target}
+use Rattle.area.proofs.Laws.{Row, row_none, row_done, laws}
+use Rattle.subspace.specs.State.{moved_in}
+use Rattle.subspace.proofs.Makes.{moves}
+use Rattle.subspace.proofs.moved.Goals as goal
+
+pub loop-i-init : goal.loop-i-init
+loop-i-init c = row_none (omega arith)
+
+pub loop-i-preserved : goal.loop-i-preserved
+loop-i-preserved c = search laws
+
+pub returns : goal.returns
+returns c = moves _ _ _ _ _ (row_done c.loop-i.invariant (omega arith)) c.all_finite.ensures

@@ -1,0 +1,29 @@
+-- `subspace::reduced_right` meets its contract: the first i products are made, from the columns as they stand. Assumes nothing.
+use mathlib.Core.Path.{◌∙◌}
+use Prim.Native.Nat.{◌-◌, ◌*◌}
+use native.Mathlib.Omega.{arith}
+use Rattle.definition.specs.Number.{zero64, times}
+use Rattle.definition.specs.Vector.{word}
+use Rattle.definition.specs.Compact.{column_word}
+use Rattle.definition.specs.Geometry.{free_sum}
+use Rattle.area.specs.Area.{view, bounds_of, vector_cauchy, vector_product_d}
+use Rattle.compact.specs.State.{compact_of}
+use Rattle.compact.proofs.Laws.{Padding, padding_none, padding_more, padding_done, pairs_count, vector_room, laws}
+use Rattle.subspace.proofs.Laws.{right_is}
+use Rattle.subspace.proofs.reduced_right.Goals as goal
+
+pub loop-i-init : goal.loop-i-init
+loop-i-init c = padding_none (omega arith) c.zeros-right.ensures
+
+pub free_sum-requires : goal.free_sum-requires
+free_sum-requires c =
+    let s = c.requires.0 in
+    (omega arith, vector_room _ s (omega arith), vector_room _ s (omega arith))
+
+pub loop-i-preserved : goal.loop-i-preserved
+loop-i-preserved c =
+    padding_more c.loop-i.invariant (omega arith)
+    (c.free_sum.ensures ∙ right_is _ _ c.requires.1 (omega arith) c.column_slot.ensures)
+
+pub returns : goal.returns
+returns c = rw pairs_count (padding_done c.loop-i.invariant (omega arith))

@@ -1,0 +1,20 @@
+-- `subspace::share` meets its contract: alpha is what the first i coordinates leave. Assumes nothing.
+use Prim.Native.Nat.{◌-◌}
+use native.Mathlib.Omega.{arith}
+use Rattle.definition.specs.Number.{one64}
+use Rattle.definition.specs.Geometry.{share_of}
+use Rattle.float.proofs.Constants.{one_is}
+use Rattle.area.specs.Area.{fold_rows}
+use Rattle.area.proofs.Laws.{Folded, fold_none, fold_done, laws}
+use Rattle.subspace.specs.State.{share_in}
+use Rattle.subspace.proofs.share.Goals as goal
+
+pub loop-i-init : goal.loop-i-init
+loop-i-init c = rw one_is fold_none
+
+pub returns : goal.returns
+unfolding fold_rows share_of
+returns c = fold_done c.loop-i.invariant (omega arith)
+
+pub loop-i-preserved : goal.loop-i-preserved
+loop-i-preserved c = search laws

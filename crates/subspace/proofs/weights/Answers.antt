@@ -1,0 +1,14 @@
+-- `subspace::weights` meets its contract. Assumes nothing.
+use mathlib.Core.Path.{sym, ◌∙◌}
+use Prim.Native.Nat.{◌*◌}
+use borrow.Author.Rules.{rules}
+use Rattle.definition.specs.Solve.{solve}
+use Rattle.area.specs.Area.{view}
+use Rattle.compact.proofs.Laws.{pairs_count}
+use Rattle.subspace.proofs.weights.Goals as goal
+
+pub returns : goal.returns
+returns c =
+    let a = c.args in
+    let v = view a.area.now a.shape.n in
+    c.solve.ensures ∙ (λ k. solve (2 * sym (pairs_count a.shape v) k) (c.reduced-matrix.ensures k) (c.reduced_right-right.ensures k))
