@@ -49,7 +49,7 @@ pub turns_then : {F G : M.Machine → M.Machine} {t s r : Fit} → Turns F t s �
 turns_then {G = G} h k = record {
   shape = k.shape ∙ h.shape;
   kept = kept_trans h.kept k.kept;
-  is = λ v. k.is v ∙ ap vector_g (h.is v);
+  is = λ v. k.is v ∙ ap G (h.is v);
 }
 
 pub phased : {p : Phase} {t r : Fit} → r ≡ with_phase p t → Turns (M.in_phase (phase_of p)) t r
