@@ -3,7 +3,7 @@ use Prim.Native.Nat.{ℕ, ◌+◌, ◌*◌, ◌/◌, ◌≤◌, ◌<◌}
 use native.Mathlib.Omega.{arith}
 use mathlib.Core.Path.{◌≡◌, refl, sym, ap, ◌∙◌, subst}
 use mathlib.Core.Bool.{Bool, true, false, cond}
-use mathlib.Core.List.{List, [], ◌∷◌, map}
+use mathlib.Core.List.{List, [], map}
 use mathlib.Core.Option.{Option, none, some}
 use borrow.Author.Tests.{lt-ltb, le-ltb}
 use lib.Dec.{eqb, ltb}
@@ -34,7 +34,6 @@ use Rattle.lbfgsb.specs.declared.Answer.{Answer}
 use Rattle.lbfgsb.specs.declared.Answer.TheVariants as A
 use Rattle.lbfgsb.specs.declared.Asked.{Asked}
 use Rattle.lbfgsb.specs.declared.Asked.TheVariants as Q
-use Rattle.lbfgsb.specs.contracts.Asked.{the_type}
 use Rattle.lbfgsb.specs.declared.Told.{Told}
 use Rattle.lbfgsb.specs.declared.Told.TheVariants as T
 use Rattle.input.specs.Input.{Taken}

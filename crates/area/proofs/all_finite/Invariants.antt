@@ -1,10 +1,8 @@
 -- `area::all_finite` meets its contract; in its loop ok tells of the first i words. Assumes nothing.
 use Prim.Native.Nat.{◌-◌}
-use native.Mathlib.Omega.{arith}
 use mathlib.Core.Bool.{true, ◌&&◌}
 use lib.Ieee.Scale.{finite}
-use Rattle.area.specs.Area.{fold_rows}
-use Rattle.area.proofs.Laws.{Folded, fold_none, fold_done, laws}
+use Rattle.area.proofs.Laws.{Folded}
 use Rattle.area.proofs.all_finite.Given as goal
 
 abbrev pub invariant-loop-i : goal.invariant-loop-i

@@ -1,7 +1,6 @@
 -- `area::copy` meets its contract; in its loop word i of vector p becomes that of vector q. Assumes nothing.
-use Prim.Native.Nat.{◌-◌}
 use native.Mathlib.Omega.{arith}
-use Rattle.area.proofs.Laws.{Row, row_none, laws}
+use Rattle.area.proofs.Laws.{row_none, laws}
 use Rattle.area.proofs.copy.Goals as goal
 
 pub loop-i-init : goal.loop-i-init

@@ -1,7 +1,6 @@
 -- `area::copy` meets its contract; in its loop word i of vector p becomes that of vector q. Assumes nothing.
 use Prim.Native.Nat.{◌-◌}
-use native.Mathlib.Omega.{arith}
-use Rattle.area.proofs.Laws.{Row, row_none, laws}
+use Rattle.area.proofs.Laws.{Row}
 use Rattle.area.proofs.copy.Given as goal
 
 abbrev pub invariant-loop-i : goal.invariant-loop-i

@@ -1,9 +1,7 @@
 -- `area::difference` meets its contract; in its loop word i of vector p becomes the difference of those of q and r. Assumes nothing.
-use Prim.Native.Nat.{◌-◌}
 use native.Mathlib.Omega.{arith}
-use Rattle.definition.specs.Number.{minus}
 use Rattle.area.specs.Area.{difference_of, rowwise}
-use Rattle.area.proofs.Laws.{Row, row_none, row_done, laws}
+use Rattle.area.proofs.Laws.{row_none, row_done, laws}
 use Rattle.area.proofs.difference.Goals as goal
 
 pub loop-i-init : goal.loop-i-init

@@ -1,9 +1,7 @@
 -- `area::difference` meets its contract; in its loop word i of vector p becomes the difference of those of q and r. Assumes nothing.
 use Prim.Native.Nat.{◌-◌}
-use native.Mathlib.Omega.{arith}
 use Rattle.definition.specs.Number.{minus}
-use Rattle.area.specs.Area.{difference_of, rowwise}
-use Rattle.area.proofs.Laws.{Row, row_none, row_done, laws}
+use Rattle.area.proofs.Laws.{Row}
 use Rattle.area.proofs.difference.Given as goal
 
 abbrev pub invariant-loop-i : goal.invariant-loop-i

@@ -1,10 +1,8 @@
 -- `area::dot` meets its contract; in its loop the sum is that of the first i products. Assumes nothing.
-use Prim.Native.Nat.{◌-◌}
 use native.Mathlib.Omega.{arith}
 use lib.Ieee.{of_bits}
-use Rattle.definition.specs.Number.{plus, times, neg_zero}
 use Rattle.area.specs.Area.{fold_rows}
-use Rattle.area.proofs.Laws.{Folded, fold_none, fold_done, laws}
+use Rattle.area.proofs.Laws.{fold_none, fold_done, laws}
 use Rattle.area.proofs.dot.Goals as goal
 
 pub loop-i-init : goal.loop-i-init

@@ -1,10 +1,7 @@
 -- `area::dot` meets its contract; in its loop the sum is that of the first i products. Assumes nothing.
 use Prim.Native.Nat.{◌-◌}
-use native.Mathlib.Omega.{arith}
-use lib.Ieee.{of_bits}
 use Rattle.definition.specs.Number.{plus, times, neg_zero}
-use Rattle.area.specs.Area.{fold_rows}
-use Rattle.area.proofs.Laws.{Folded, fold_none, fold_done, laws}
+use Rattle.area.proofs.Laws.{Folded}
 use Rattle.area.proofs.dot.Given as goal
 
 abbrev pub invariant-loop-i : goal.invariant-loop-i

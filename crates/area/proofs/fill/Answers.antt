@@ -1,7 +1,6 @@
 -- `area::fill` meets its contract; in its loop word i of vector p becomes v. Assumes nothing.
-use Prim.Native.Nat.{◌-◌}
 use native.Mathlib.Omega.{arith}
-use Rattle.area.proofs.Laws.{Row, row_none, laws}
+use Rattle.area.proofs.Laws.{row_none, laws}
 use Rattle.area.specs.Area.{fill_of}
 use Rattle.area.proofs.fill.Goals as goal
 

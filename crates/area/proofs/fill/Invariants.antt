@@ -1,8 +1,6 @@
 -- `area::fill` meets its contract; in its loop word i of vector p becomes v. Assumes nothing.
 use Prim.Native.Nat.{◌-◌}
-use native.Mathlib.Omega.{arith}
-use Rattle.area.proofs.Laws.{Row, row_none, laws}
-use Rattle.area.specs.Area.{fill_of}
+use Rattle.area.proofs.Laws.{Row}
 use Rattle.area.proofs.fill.Given as goal
 
 abbrev pub invariant-loop-i : goal.invariant-loop-i

@@ -1,5 +1,4 @@
 -- `area::put` meets its contract. Assumes nothing.
-use borrow.Author.Rules.{rules}
 use Rattle.area.proofs.Laws.{view-set}
 use Rattle.area.proofs.put.Goals as goal
 

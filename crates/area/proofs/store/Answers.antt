@@ -1,8 +1,6 @@
 -- `area::store` meets its contract; in its loop word i of vector p becomes that of the slice. Assumes nothing.
-use Prim.Native.Nat.{◌-◌}
 use native.Mathlib.Omega.{arith}
-use Rattle.definition.specs.Vector.{word}
-use Rattle.area.proofs.Laws.{Row, row_none, laws}
+use Rattle.area.proofs.Laws.{row_none, laws}
 use Rattle.area.proofs.store.Goals as goal
 
 pub loop-i-init : goal.loop-i-init

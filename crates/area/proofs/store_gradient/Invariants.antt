@@ -1,14 +1,11 @@
 -- `area::store_gradient` meets its contract: in its loop word i of the trial's gradient becomes the float of a word. Assumes nothing.
-use mathlib.Core.Path.{◌∙◌}
 use mathlib.Core.List.{map}
 use Prim.Native.Nat.{◌-◌}
-use native.Mathlib.Omega.{arith}
 use lib.ListN.{take, drop}
 use Rattle.definition.specs.Number.{to_float}
 use Rattle.definition.specs.Vector.{word}
 use Rattle.area.specs.Area.{vector_trial_gradient}
-use Rattle.area.proofs.Laws.{Row, row_none, row_more, row_stored, laws}
-use Rattle.area.proofs.Floats.{float_at, floats_count}
+use Rattle.area.proofs.Laws.{Row}
 use Rattle.area.proofs.store_gradient.Given as goal
 
 abbrev pub invariant-loop-i : goal.invariant-loop-i

@@ -1,7 +1,5 @@
 -- `compact::acceptable` meets its contract, test by test. Assumes nothing.
 use mathlib.Core.Path.{sym, ◌∙◌}
-use borrow.Author.Rules.{rules}
-use borrow.Author.Tests.{not-true, not-false}
 use Rattle.float.proofs.Constants.{epsilon_is, zero_is}
 use Rattle.compact.proofs.acceptable.Goals as goal
 

@@ -1,13 +1,10 @@
 -- `compact::block` meets its contract: the first i rows are made. Assumes nothing.
 use Prim.Native.Nat.{ℕ, ◌-◌, ◌*◌}
-use mathlib.Core.Path.{ap}
-use native.Mathlib.Omega.{arith}
-use lib.ListN.{replicate}
 use Rattle.definition.specs.Number.{zero64}
 use Rattle.definition.specs.Compact.{block_entry, padded, zero_row}
 use Rattle.area.specs.Area.{view}
 use Rattle.compact.specs.State.{compact_of}
-use Rattle.compact.proofs.Laws.{Padding, padding_none, padding_done, pairs_count, laws}
+use Rattle.compact.proofs.Laws.{Padding}
 use Rattle.compact.proofs.block.Given as goal
 
 abbrev pub invariant-loop-i : goal.invariant-loop-i

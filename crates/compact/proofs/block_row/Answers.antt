@@ -1,11 +1,6 @@
 -- `compact::block_row` meets its contract: the first j entries are made. Assumes nothing.
-use Prim.Native.Nat.{◌-◌, ◌*◌}
 use native.Mathlib.Omega.{arith}
-use Rattle.definition.specs.Number.{zero64}
-use Rattle.definition.specs.Compact.{block_entry}
-use Rattle.area.specs.Area.{view}
-use Rattle.compact.specs.State.{compact_of}
-use Rattle.compact.proofs.Laws.{Padding, padding_none, laws}
+use Rattle.compact.proofs.Laws.{padding_none, laws}
 use Rattle.compact.proofs.block_row.Goals as goal
 
 pub loop-j-init : goal.loop-j-init

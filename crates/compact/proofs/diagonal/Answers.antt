@@ -1,7 +1,6 @@
 -- `compact::diagonal` meets its contract, by its test. Assumes nothing.
 use mathlib.Core.Path.{ap}
 use lib.Ieee.{neg}
-use borrow.Author.Rules.{rules}
 use borrow.Author.Tests.{eq-eqb, ne_eqb}
 use Rattle.definition.specs.Compact.{diagonal_entry}
 use Rattle.float.proofs.Constants.{zero_is}

@@ -1,6 +1,5 @@
 -- `compact::lay_column` meets its contract, by the column's half. Assumes nothing.
 use native.Mathlib.Omega.{arith}
-use borrow.Author.Rules.{rules}
 use Rattle.compact.proofs.Laws.{vector_room}
 use Rattle.compact.proofs.Columns.{y_laid, s_laid}
 use Rattle.compact.proofs.lay_column.Goals as goal

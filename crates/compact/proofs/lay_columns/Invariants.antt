@@ -1,11 +1,9 @@
 -- `compact::lay_columns` meets its contract: the first k columns are laid out, and the pairs stay. Assumes nothing.
-use mathlib.Core.Path.{◌≡◌, refl, ◌∙◌}
+use mathlib.Core.Path.{◌≡◌}
 use Prim.Native.Nat.{◌-◌, ◌*◌}
-use native.Mathlib.Omega.{arith}
 use lib.ListN.{length}
 use Rattle.area.specs.Area.{view}
-use Rattle.compact.proofs.Laws.{laws}
-use Rattle.compact.proofs.Columns.{Laying, laying_none, laying_more, laying_done}
+use Rattle.compact.proofs.Columns.{Laying}
 use Rattle.compact.proofs.lay_columns.Given as goal
 
 abbrev pub invariant-loop-column : goal.invariant-loop-column

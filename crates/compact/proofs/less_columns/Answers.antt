@@ -1,12 +1,9 @@
 -- `compact::less_columns` meets its contract: vector p has lost the first k columns. Assumes nothing.
-use mathlib.Core.Path.{◌≡◌, refl, ◌∙◌}
-use Prim.Native.Nat.{◌-◌, ◌*◌}
+use mathlib.Core.Path.{refl, ◌∙◌}
 use native.Mathlib.Omega.{arith}
-use lib.ListN.{length}
-use Rattle.area.specs.Area.{view}
 use Rattle.area.proofs.Laws.{length-view}
-use Rattle.compact.proofs.Laws.{vector_room, laws}
-use Rattle.compact.proofs.Columns.{Lessened, lessened_none, lessened_more, lessened_done}
+use Rattle.compact.proofs.Laws.{vector_room}
+use Rattle.compact.proofs.Columns.{lessened_none, lessened_more, lessened_done}
 use Rattle.compact.proofs.less_columns.Goals as goal
 
 pub loop-column-init : goal.loop-column-init

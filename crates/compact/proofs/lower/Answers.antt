@@ -1,5 +1,4 @@
 -- `compact::lower` meets its contract, by its test. Assumes nothing.
-use borrow.Author.Rules.{rules}
 use borrow.Author.Tests.{lt-ltb, le-ltb}
 use Rattle.definition.specs.Compact.{lower_entry}
 use Rattle.float.proofs.Constants.{zero_is}

@@ -1,5 +1,4 @@
 -- `compact::pair_slot` meets its contract. Assumes nothing.
-use native.Mathlib.Omega.{arith}
 use Rattle.compact.proofs.Laws.{slot_is}
 use Rattle.compact.proofs.pair_slot.Goals as goal
 

@@ -1,7 +1,4 @@
 -- `compact::product` meets its contract: the weights, then theta times the vector less the columns, if that is finite. Assumes nothing.
-use native.Mathlib.Omega.{arith}
-use borrow.Author.Rules.{rules}
-use Rattle.compact.proofs.Laws.{vector_room}
 use Rattle.compact.proofs.Columns.{no_product, with_product}
 use Rattle.compact.proofs.product.Goals as goal
 

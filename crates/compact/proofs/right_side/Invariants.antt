@@ -1,13 +1,10 @@
 -- `compact::right_side` meets its contract: the first k products are made, from the columns as they stand. Assumes nothing.
-use mathlib.Core.Path.{◌∙◌}
 use Prim.Native.Nat.{◌-◌, ◌*◌}
-use native.Mathlib.Omega.{arith}
 use Rattle.definition.specs.Number.{zero64}
 use Rattle.definition.specs.Compact.{column_dot}
 use Rattle.area.specs.Area.{view}
 use Rattle.compact.specs.State.{compact_of}
-use Rattle.compact.proofs.Laws.{Padding, padding_none, padding_more, padding_done, pairs_count, vector_room, laws}
-use Rattle.compact.proofs.Columns.{laid_dot}
+use Rattle.compact.proofs.Laws.{Padding}
 use Rattle.compact.proofs.right_side.Given as goal
 
 abbrev pub invariant-loop-column : goal.invariant-loop-column

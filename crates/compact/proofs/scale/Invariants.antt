@@ -1,8 +1,7 @@
 -- `compact::scale` meets its contract: word i of vector p becomes w times that of q. Assumes nothing.
 use Prim.Native.Nat.{◌-◌}
-use native.Mathlib.Omega.{arith}
 use Rattle.definition.specs.Number.{times}
-use Rattle.area.proofs.Laws.{Row, row_none, laws}
+use Rattle.area.proofs.Laws.{Row}
 use Rattle.compact.proofs.scale.Given as goal
 
 abbrev pub invariant-loop-i : goal.invariant-loop-i

@@ -1,6 +1,5 @@
 -- `compact::update` meets its contract: a pair that is acceptable is pushed, and otherwise all stays. Assumes nothing.
 use mathlib.Core.Path.{sym, ◌∙◌}
-use borrow.Author.Rules.{rules}
 use Rattle.compact.proofs.Ring.{pair_taken, pair_refused}
 use Rattle.compact.proofs.update.Goals as goal
 

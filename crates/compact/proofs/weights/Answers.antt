@@ -1,7 +1,6 @@
 -- `compact::weights` meets its contract: no pair, no weight, and otherwise the block's system is solved. Assumes nothing.
 use mathlib.Core.Path.{ap, ◌∙◌}
 use mathlib.Core.Option.{some}
-use borrow.Author.Rules.{rules}
 use Rattle.compact.proofs.Columns.{weighed_with, unweighed}
 use Rattle.compact.proofs.weights.Goals as goal
 

@@ -1,7 +1,6 @@
 -- `entry::answer` meets its contract: the point of the open question, or the end's. Assumes nothing.
 use mathlib.Core.Path.{◌∙◌}
 use native.Mathlib.Omega.{arith}
-use borrow.Author.Rules.{rules}
 use Rattle.definition.specs.History.{History}
 use Rattle.definition.specs.Book.{run_of}
 use Rattle.entry.proofs.Laws.{question_answered, asked_nothing, asked_put, fit_ended}

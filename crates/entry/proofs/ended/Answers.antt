@@ -1,7 +1,6 @@
 -- `entry::ended` meets its contract: nothing after a failure, and else the point of the report. Assumes nothing.
 use mathlib.Core.Path.{◌∙◌}
 use native.Mathlib.Omega.{arith}
-use borrow.Author.Rules.{rules}
 use Rattle.definition.specs.History.{History}
 use Rattle.definition.specs.Book.{run_of}
 use Rattle.entry.proofs.Laws.{report_answered, end_failed, end_put}

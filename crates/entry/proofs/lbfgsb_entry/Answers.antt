@@ -1,9 +1,7 @@
 -- `entry::lbfgsb_entry` meets its contract: the answer of the fit that is read, or 100 and the refusal's number. Assumes nothing.
 use native.Mathlib.Omega.{arith}
-use borrow.Author.Rules.{rules}
-use lib.ListN.{length}
 use Rattle.definition.specs.Programs.{read_input}
-use Rattle.entry.proofs.Laws.{read_small, read_kept, read_few, read_refused}
+use Rattle.entry.proofs.Laws.{read_small, read_few}
 use Rattle.entry.proofs.lbfgsb_entry.Goals as goal
 
 pub answer-requires : goal.answer-requires

@@ -1,6 +1,5 @@
 -- `entry::put_floats` meets its contract: the first i floats stand in the output. Assumes nothing.
-use Prim.Native.Nat.{◌-◌}
-use Rattle.entry.proofs.Floats.{Putting, putting_none, laws}
+use Rattle.entry.proofs.Floats.{putting_none, laws}
 use Rattle.entry.proofs.put_floats.Goals as goal
 
 pub loop-i-init : goal.loop-i-init

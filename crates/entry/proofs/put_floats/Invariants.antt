@@ -1,6 +1,6 @@
 -- `entry::put_floats` meets its contract: the first i floats stand in the output. Assumes nothing.
 use Prim.Native.Nat.{◌-◌}
-use Rattle.entry.proofs.Floats.{Putting, putting_none, laws}
+use Rattle.entry.proofs.Floats.{Putting}
 use Rattle.entry.proofs.put_floats.Given as goal
 
 abbrev pub invariant-loop-i : goal.invariant-loop-i

@@ -1,6 +1,5 @@
 -- `input::read` meets its contract: 17 for an input too long, and else what `restore` does. Assumes nothing.
 use mathlib.Core.Path.{refl}
-use borrow.Author.Rules.{rules}
 use Rattle.input.proofs.Laws.{taken_long, taken_restored}
 use Rattle.input.proofs.read.Goals as goal
 

@@ -1,10 +1,8 @@
 -- `lbfgsb::entry` meets its contract: no fit, a log too short, no such entry, an output too short, the entry put. Assumes nothing.
 use mathlib.Core.Path.{sym, ◌∙◌}
-use borrow.Author.Rules.{rules}
-use borrow.Author.Tests.{not-true, not-false}
 use Rattle.lookup.proofs.Entries.{entry_room}
 use Rattle.lookup.proofs.Saving.{facts}
-use Rattle.lbfgsb.proofs.Reading.{entry_unheld, entry_cut, entry_absent, entry_short, entry_put}
+use Rattle.lbfgsb.proofs.Reading.{entry_short, entry_put}
 use Rattle.lbfgsb.proofs.entry.Goals as goal
 
 pub entry_place-at-requires : goal.entry_place-at-requires

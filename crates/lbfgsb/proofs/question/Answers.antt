@@ -1,9 +1,7 @@
 -- `lbfgsb::question` meets its contract: no fit, a fit that has ended, an output too short, the question put. Assumes nothing.
 use mathlib.Core.Path.{sym, ◌∙◌}
-use borrow.Author.Rules.{rules}
-use borrow.Author.Tests.{not-true, not-false}
 use Rattle.lookup.proofs.Saving.{facts}
-use Rattle.lbfgsb.proofs.Reading.{question_unheld, question_ended, question_short, question_put}
+use Rattle.lbfgsb.proofs.Reading.{question_short, question_put}
 use Rattle.lbfgsb.proofs.question.Goals as goal
 
 pub returns-then-out-n : goal.returns-then-out-n

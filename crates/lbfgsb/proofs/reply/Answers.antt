@@ -1,13 +1,12 @@
 -- `lbfgsb::reply` meets its contract: refused, or kept. Assumes nothing.
 use mathlib.Core.Path.{◌≡◌, refl, sym, ◌∙◌}
 use borrow.Author.Rules.{rules}
-use borrow.Author.Tests.{not-true, not-false}
 use lib.ListN.{length}
 use Rattle.held.proofs.Test.{ready_facts, held_ready}
 use Rattle.lbfgsb.specs.Words.{words}
 use Rattle.lbfgsb.specs.Bridge.{replied}
 use Rattle.accept.proofs.Checks.{passed, refused}
-use Rattle.lbfgsb.proofs.Answers.{reply_unheld, reply_refused, reply_advanced}
+use Rattle.lbfgsb.proofs.Answers.{reply_refused, reply_advanced}
 use Rattle.lbfgsb.proofs.reply.Goals as goal
 
 pub check_reply-check-requires : goal.check_reply-check-requires

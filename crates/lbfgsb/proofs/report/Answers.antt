@@ -1,9 +1,7 @@
 -- `lbfgsb::report` meets its contract: no fit, no value yet, an output too short, the report put. Assumes nothing.
 use mathlib.Core.Path.{sym, ◌∙◌}
-use borrow.Author.Rules.{rules}
-use borrow.Author.Tests.{not-true, not-false}
 use Rattle.lookup.proofs.Saving.{facts}
-use Rattle.lbfgsb.proofs.Reading.{report_unheld, report_none, report_short, report_put}
+use Rattle.lbfgsb.proofs.Reading.{report_short, report_put}
 use Rattle.lbfgsb.proofs.report.Goals as goal
 
 pub returns-then-out-n : goal.returns-then-out-n

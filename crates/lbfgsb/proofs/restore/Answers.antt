@@ -1,8 +1,6 @@
 -- `lbfgsb::restore` meets its contract. Assumes nothing.
-use borrow.Author.Rules.{rules}
 use lib.ListN.{length}
-use Rattle.lbfgsb.specs.Words.{words}
-use Rattle.lbfgsb.proofs.Restored.{parsed_refused, parsed_opens, answered_restored}
+use Rattle.lbfgsb.proofs.Restored.{parsed_opens, answered_restored}
 use Rattle.lbfgsb.proofs.restore.Goals as goal
 
 pub returns-in-Setup : goal.returns-in-Setup

@@ -1,10 +1,8 @@
 -- `lbfgsb::save` meets its contract: no fit, a log too short, an output too short, the record put. No sum wraps. Assumes nothing.
 use mathlib.Core.Path.{sym, ◌∙◌}
 use native.Mathlib.Omega.{arith}
-use borrow.Author.Rules.{rules}
-use borrow.Author.Tests.{not-true, not-false}
 use Rattle.lookup.proofs.Saving.{facts, setup_few, held_placed}
-use Rattle.lbfgsb.proofs.Reading.{save_unheld, save_cut, save_short, save_put}
+use Rattle.lbfgsb.proofs.Reading.{save_short, save_put}
 use Rattle.lbfgsb.proofs.save.Goals as goal
 
 pub setup_words-requires : goal.setup_words-requires

@@ -1,11 +1,7 @@
 -- `lbfgsb::take_back` meets its contract. Assumes nothing.
 use mathlib.Core.Path.{sym, ◌∙◌}
-use native.Mathlib.Omega.{arith}
-use borrow.Author.Rules.{rules}
-use borrow.Author.Tests.{not-true, not-false}
 use Rattle.held.proofs.Test.{held_ready}
-use Rattle.lbfgsb.specs.Words.{words}
-use Rattle.lbfgsb.proofs.Back.{back_by, unheld_refused, many_refused, short_refused, unheld_kept, answered_back}
+use Rattle.lbfgsb.proofs.Back.{answered_back}
 use Rattle.lbfgsb.proofs.take_back.Goals as goal
 
 pub shorten-requires : goal.shorten-requires

@@ -1,12 +1,9 @@
 -- `solve::all_finite` meets its contract; in its loop the places before at are finite. Assumes nothing.
-use mathlib.Core.Path.{refl, sym, ◌∙◌}
-use native.Mathlib.Omega.{arith}
-use borrow.Author.Tests.{not-true, not-false}
 use Prim.Native.Nat.{◌-◌}
 use mathlib.Core.Bool.{true, ◌&&◌}
 use lib.Ieee.Scale.{finite}
 use Rattle.definition.specs.Vector.{word}
-use Rattle.area.proofs.Laws.{Looped, looped_none, looped_more, looped_stays, laws}
+use Rattle.area.proofs.Laws.{Looped}
 use Rattle.solve.proofs.all_finite.Given as goal
 
 abbrev pub invariant-loop-at : goal.invariant-loop-at

@@ -1,10 +1,7 @@
 -- `solve::backward` meets its contract; in its loop the last d places are known. Assumes nothing.
-use Prim.Native.Nat.{◌-◌, ◌+◌}
 use lib.Ieee.{of_bits}
-use lib.ListN.{length, replicate}
-use Rattle.definition.specs.Number.{zero64}
-use Rattle.definition.specs.Solve.{system, back_row, backward}
-use Rattle.area.proofs.Laws.{Looped, looped_none, laws}
+use Rattle.definition.specs.Solve.{backward}
+use Rattle.area.proofs.Laws.{looped_none, laws}
 use Rattle.solve.proofs.backward.Goals as goal
 
 pub loop-done-init : goal.loop-done-init

@@ -1,10 +1,9 @@
 -- `solve::backward` meets its contract; in its loop the last d places are known. Assumes nothing.
 use Prim.Native.Nat.{◌-◌, ◌+◌}
-use lib.Ieee.{of_bits}
 use lib.ListN.{length, replicate}
 use Rattle.definition.specs.Number.{zero64}
-use Rattle.definition.specs.Solve.{system, back_row, backward}
-use Rattle.area.proofs.Laws.{Looped, looped_none, laws}
+use Rattle.definition.specs.Solve.{system, back_row}
+use Rattle.area.proofs.Laws.{Looped}
 use Rattle.solve.proofs.backward.Given as goal
 
 abbrev pub invariant-loop-done : goal.invariant-loop-done

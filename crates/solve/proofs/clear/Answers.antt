@@ -1,6 +1,6 @@
 -- `solve::clear` meets its contract; in its loop the first d places past k are done, and place k stays. Assumes nothing.
-use mathlib.Core.Path.{◌≡◌, refl, sym, ap, ◌∙◌}
-use Prim.Native.Nat.{◌-◌, ◌+◌}
+use mathlib.Core.Path.{refl, sym, ap, ◌∙◌}
+use Prim.Native.Nat.{◌+◌}
 use native.Mathlib.Omega.{arith}
 use lib.Ieee.{Float, nan}
 use lib.ListN.{set}
@@ -8,7 +8,7 @@ use lib.Seq.{get_or-set_other}
 use Rattle.definition.specs.Number.{minus, times}
 use Rattle.definition.specs.Vector.{word}
 use Rattle.definition.specs.Solve.{row}
-use Rattle.area.proofs.Laws.{Looped, looped_none, looped_more, looped_done, laws}
+use Rattle.area.proofs.Laws.{looped_none, looped_more, looped_done}
 use Rattle.solve.specs.Factors.{cleared_to}
 use Rattle.solve.proofs.clear.Goals as goal
 

@@ -1,15 +1,11 @@
 -- `solve::clear` meets its contract; in its loop the first d places past k are done, and place k stays. Assumes nothing.
-use mathlib.Core.Path.{◌≡◌, refl, sym, ap, ◌∙◌}
+use mathlib.Core.Path.{◌≡◌}
 use Prim.Native.Nat.{◌-◌, ◌+◌}
-use native.Mathlib.Omega.{arith}
-use lib.Ieee.{Float, nan}
 use lib.ListN.{set}
-use lib.Seq.{get_or-set_other}
 use Rattle.definition.specs.Number.{minus, times}
 use Rattle.definition.specs.Vector.{word}
 use Rattle.definition.specs.Solve.{row}
-use Rattle.area.proofs.Laws.{Looped, looped_none, looped_more, looped_done, laws}
-use Rattle.solve.specs.Factors.{cleared_to}
+use Rattle.area.proofs.Laws.{Looped}
 use Rattle.solve.proofs.clear.Given as goal
 
 abbrev pub invariant-loop-past : goal.invariant-loop-past

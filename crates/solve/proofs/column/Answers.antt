@@ -1,6 +1,5 @@
 -- `solve::column` meets its contract. Assumes nothing.
 use mathlib.Core.Path.{sym, ◌∙◌}
-use borrow.Author.Rules.{rules}
 use Rattle.solve.proofs.Steps.{cleared, stuck}
 use Rattle.solve.proofs.column.Goals as goal
 

@@ -1,10 +1,7 @@
 -- `solve::eliminate` meets its contract; in its loop the first d rows below k are done, and row k is p. Assumes nothing.
-use mathlib.Core.Path.{◌≡◌, refl, ◌∙◌}
-use Prim.Native.Nat.{◌-◌}
+use mathlib.Core.Path.{refl, ◌∙◌}
 use native.Mathlib.Omega.{arith}
-use Rattle.definition.specs.Solve.{row}
-use Rattle.area.proofs.Laws.{laws}
-use Rattle.solve.proofs.Steps.{Eliminating, eliminating_none, eliminating_more, eliminating_done}
+use Rattle.solve.proofs.Steps.{eliminating_none, eliminating_more, eliminating_done}
 use Rattle.solve.proofs.eliminate.Goals as goal
 
 pub loop-past-init : goal.loop-past-init

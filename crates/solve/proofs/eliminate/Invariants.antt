@@ -1,10 +1,8 @@
 -- `solve::eliminate` meets its contract; in its loop the first d rows below k are done, and row k is p. Assumes nothing.
-use mathlib.Core.Path.{◌≡◌, refl, ◌∙◌}
+use mathlib.Core.Path.{◌≡◌}
 use Prim.Native.Nat.{◌-◌}
-use native.Mathlib.Omega.{arith}
 use Rattle.definition.specs.Solve.{row}
-use Rattle.area.proofs.Laws.{laws}
-use Rattle.solve.proofs.Steps.{Eliminating, eliminating_none, eliminating_more, eliminating_done}
+use Rattle.solve.proofs.Steps.{Eliminating}
 use Rattle.solve.proofs.eliminate.Given as goal
 
 abbrev pub invariant-loop-past : goal.invariant-loop-past

@@ -2,10 +2,9 @@
 use mathlib.Core.Path.{ap, ◌∙◌}
 use Prim.Native.Nat.{◌-◌, ◌+◌}
 use native.Mathlib.Omega.{arith}
-use lib.ListN.{get_or}
 use Rattle.definition.specs.Solve.{row}
-use Rattle.area.proofs.Laws.{Looped, looped_none, looped_more, looped_done, laws}
-use Rattle.solve.specs.Factors.{cleared_to, stepped, forward_to}
+use Rattle.area.proofs.Laws.{looped_none, looped_more, looped_done}
+use Rattle.solve.specs.Factors.{cleared_to, forward_to}
 use Rattle.solve.proofs.forward.Goals as goal
 
 pub loop-k-init : goal.loop-k-init

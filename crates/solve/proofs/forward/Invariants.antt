@@ -1,11 +1,9 @@
 -- `solve::forward` meets its contract; in its loop the first k steps are taken. Assumes nothing.
-use mathlib.Core.Path.{ap, ◌∙◌}
-use Prim.Native.Nat.{◌-◌, ◌+◌}
-use native.Mathlib.Omega.{arith}
+use Prim.Native.Nat.{◌-◌}
 use lib.ListN.{get_or}
 use Rattle.definition.specs.Solve.{row}
-use Rattle.area.proofs.Laws.{Looped, looped_none, looped_more, looped_done, laws}
-use Rattle.solve.specs.Factors.{cleared_to, stepped, forward_to}
+use Rattle.area.proofs.Laws.{Looped}
+use Rattle.solve.specs.Factors.{stepped}
 use Rattle.solve.proofs.forward.Given as goal
 
 abbrev pub invariant-loop-k : goal.invariant-loop-k

@@ -1,9 +1,7 @@
 -- `solve::less_row` meets its contract; in its loop the first d columns past k are done, and row k is p. Assumes nothing.
 use mathlib.Core.Path.{refl}
-use Prim.Native.Nat.{◌-◌}
 use native.Mathlib.Omega.{arith}
-use Rattle.area.proofs.Laws.{laws}
-use Rattle.solve.proofs.Steps.{Lessening, lessening_none, lessening_more, lessening_done}
+use Rattle.solve.proofs.Steps.{lessening_none, lessening_more, lessening_done}
 use Rattle.solve.proofs.less_row.Goals as goal
 
 pub loop-past-init : goal.loop-past-init

@@ -1,11 +1,11 @@
 -- `solve::pivot` meets its contract; in its loop best is the pivot among row k and the d rows below it, with its magnitude's word. Assumes nothing.
-use mathlib.Core.Path.{◌≡◌, ◌∙◌, ap}
+use mathlib.Core.Path.{◌∙◌, ap}
 use mathlib.Core.Bool.{Bool, true, false, cond}
-use Prim.Native.Nat.{ℕ, ◌-◌, ◌+◌, ◌<◌}
+use Prim.Native.Nat.{ℕ, ◌+◌, ◌<◌}
 use native.Mathlib.Omega.{arith}
-use Rattle.definition.specs.Number.{abs, to_word, magnitude_le}
+use Rattle.definition.specs.Number.{to_word, magnitude_le}
 use Rattle.definition.specs.Solve.{entry, pivot_of}
-use Rattle.area.proofs.Laws.{Looped, looped_none, looped_more, looped_done, laws}
+use Rattle.area.proofs.Laws.{looped_none, looped_more, looped_done}
 use Rattle.solve.proofs.pivot.Goals as goal
 
 one_below : (t : Bool) {i j n : ℕ} → i < n → j < n → cond t i j < n

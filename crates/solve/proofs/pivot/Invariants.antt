@@ -1,11 +1,10 @@
 -- `solve::pivot` meets its contract; in its loop best is the pivot among row k and the d rows below it, with its magnitude's word. Assumes nothing.
-use mathlib.Core.Path.{◌≡◌, ◌∙◌, ap}
-use mathlib.Core.Bool.{Bool, true, false, cond}
-use Prim.Native.Nat.{ℕ, ◌-◌, ◌+◌, ◌<◌}
-use native.Mathlib.Omega.{arith}
+use mathlib.Core.Path.{◌≡◌}
+use mathlib.Core.Bool.{cond}
+use Prim.Native.Nat.{◌-◌, ◌+◌, ◌<◌}
 use Rattle.definition.specs.Number.{abs, to_word, magnitude_le}
-use Rattle.definition.specs.Solve.{entry, pivot_of}
-use Rattle.area.proofs.Laws.{Looped, looped_none, looped_more, looped_done, laws}
+use Rattle.definition.specs.Solve.{entry}
+use Rattle.area.proofs.Laws.{Looped}
 use Rattle.solve.proofs.pivot.Given as goal
 
 abbrev pub invariant-loop-past : goal.invariant-loop-past

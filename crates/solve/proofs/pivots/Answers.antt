@@ -1,6 +1,5 @@
 -- `solve::pivots` meets its contract. Assumes nothing.
 use Rattle.float.proofs.Constants.{pivot_threshold_is}
-use borrow.Author.Rules.{rules}
 use Rattle.solve.proofs.pivots.Goals as goal
 
 pub returns-then-is_finite : goal.returns-then-is_finite

@@ -1,12 +1,6 @@
 -- `solve::row_scale` meets its contract; in its loop m is the largest of most and the first j magnitudes. Assumes nothing.
-use mathlib.Core.Path.{◌≡◌}
-use mathlib.Core.Bool.{false}
 use native.Mathlib.Omega.{arith}
-use Prim.Native.Nat.{◌-◌}
-use lib.Ieee.{is_nan}
-use Rattle.definition.specs.Number.{abs, max}
-use Rattle.definition.specs.Solve.{entry}
-use Rattle.area.proofs.Laws.{Looped, looped_none, looped_more, looped_done, laws}
+use Rattle.area.proofs.Laws.{looped_none, looped_more}
 use Rattle.solve.proofs.row_scale.Goals as goal
 
 pub loop-j-init : goal.loop-j-init

@@ -1,10 +1,9 @@
 -- `solve::row_sum` meets its contract; in its loop the sum is that of the first d products. Assumes nothing.
 use Prim.Native.Nat.{◌-◌, ◌+◌}
-use lib.Ieee.{of_bits}
 use Rattle.definition.specs.Number.{plus, times, neg_zero}
 use Rattle.definition.specs.Vector.{word}
 use Rattle.definition.specs.Solve.{entry}
-use Rattle.area.proofs.Laws.{Looped, looped_none, laws}
+use Rattle.area.proofs.Laws.{Looped}
 use Rattle.solve.proofs.row_sum.Given as goal
 
 abbrev pub invariant-loop-past : goal.invariant-loop-past

@@ -1,14 +1,12 @@
 -- `solve::scale` meets its contract; in its loop most is the largest magnitude of the first i rows. Assumes nothing.
-use mathlib.Core.Path.{◌≡◌, refl}
+use mathlib.Core.Path.{◌≡◌}
 use mathlib.Core.Bool.{false}
 use Prim.Native.Nat.{◌-◌}
-use native.Mathlib.Omega.{arith}
 use lib.Ieee.{is_nan}
-use Rattle.float.proofs.Constants.{zero_is}
 use Rattle.definition.specs.Number.{abs, max, zero64}
 use Rattle.definition.specs.Vector.{fold_to}
-use Rattle.definition.specs.Solve.{entry, scale_of}
-use Rattle.area.proofs.Laws.{Looped, looped_none, looped_more, looped_done, laws}
+use Rattle.definition.specs.Solve.{entry}
+use Rattle.area.proofs.Laws.{Looped}
 use Rattle.solve.proofs.scale.Given as goal
 
 abbrev pub invariant-loop-i : goal.invariant-loop-i

@@ -1,7 +1,5 @@
 -- `solve::solve` meets its contract: factored, and solved with the factors. Assumes nothing.
-use mathlib.Core.Path.{refl, ◌∙◌}
-use native.Mathlib.Omega.{arith}
-use borrow.Author.Rules.{rules}
+use mathlib.Core.Path.{◌∙◌}
 use Rattle.solve.proofs.Steps.{factors_solve}
 use Rattle.solve.proofs.solve.Goals as goal
 

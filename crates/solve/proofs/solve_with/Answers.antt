@@ -1,8 +1,5 @@
 -- `solve::solve_with` meets its contract. Assumes nothing.
 use mathlib.Core.Path.{sym, ◌∙◌}
-use native.Mathlib.Omega.{arith}
-use borrow.Author.Rules.{rules}
-use borrow.Author.Tests.{not-true, not-false}
 use Rattle.solve.proofs.Steps.{not_factored, not_finite, solved}
 use Rattle.solve.proofs.solve_with.Goals as goal
 

@@ -1,9 +1,7 @@
 -- `solve::triangular` meets its contract; in its loop the first k columns are done. Assumes nothing.
-use Prim.Native.Nat.{◌-◌}
 use native.Mathlib.Omega.{arith}
 use borrow.Author.Tests.{not-true, not-false}
-use Rattle.area.proofs.Laws.{laws}
-use Rattle.solve.proofs.Steps.{Columns, columns_none, columns_more, columns_stopped, columns_done}
+use Rattle.solve.proofs.Steps.{columns_none, columns_more, columns_stopped, columns_done}
 use Rattle.solve.proofs.triangular.Goals as goal
 
 pub loop-k-init : goal.loop-k-init

@@ -1,9 +1,6 @@
 -- `solve::triangular` meets its contract; in its loop the first k columns are done. Assumes nothing.
 use Prim.Native.Nat.{◌-◌}
-use native.Mathlib.Omega.{arith}
-use borrow.Author.Tests.{not-true, not-false}
-use Rattle.area.proofs.Laws.{laws}
-use Rattle.solve.proofs.Steps.{Columns, columns_none, columns_more, columns_stopped, columns_done}
+use Rattle.solve.proofs.Steps.{Columns}
 use Rattle.solve.proofs.triangular.Given as goal
 
 abbrev pub invariant-loop-k : goal.invariant-loop-k
