@@ -20,7 +20,6 @@ use Rattle.counters.specs.declared.Termination.TheVariants.{Nonfinite}
 use Rattle.gradient.specs.Probing.{probes_for}
 use Rattle.gradient.proofs.Laws.{probes_read}
 use Rattle.fit.specs.declared.Fit.{Fit}
-use Rattle.fit.specs.declared.Place.{Place}
 use Rattle.fit.specs.declared.Phase.{Phase}
 use Rattle.fit.specs.declared.Side.{Side}
 use Rattle.fit.specs.declared.Side.TheVariants.{Right, Left}

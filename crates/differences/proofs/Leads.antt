@@ -1,9 +1,8 @@
 -- Laws of `LeadsTo`: how it joins with a step before it, and what the budget and the gradient's end lead to. Assumes nothing.
-use mathlib.Core.Path.{◌≡◌, refl, sym, ap, ◌∙◌}
+use mathlib.Core.Path.{◌≡◌, refl, ap, ◌∙◌}
 use mathlib.Core.List.{List}
 use mathlib.Core.Option.{none, some}
 use Prim.Native.Nat.{ℕ, ◌<◌}
-use lib.ListN.{length}
 use lib.Ieee.{Float}
 use Rattle.definition.specs.Machine as M
 use Rattle.definition.specs.Machine.{Machine}

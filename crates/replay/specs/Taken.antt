@@ -1,5 +1,5 @@
 -- One entry: the reply that stands at a word, whether it is admitted, and what taking it leaves.
-use Rattle.std.specs.Prelude.{ℕ, ◌+◌, ◌≤◌, ◌<◌, ◌≡◌, Bool, true, cond, ◌⊎◌, List, [], ◌∷◌, ◌++◌, eqb, length, get_or, take, drop, Float}
+use Rattle.std.specs.Prelude.{ℕ, ◌+◌, ◌≤◌, ◌<◌, ◌≡◌, Bool, true, cond, ◌⊎◌, List, ◌∷◌, ◌++◌, eqb, length, get_or, take, drop, Float}
 use Rattle.std.proofs.Math.Option.{none, some}
 use Rattle.definition.specs.Machine as M
 use Rattle.definition.specs.Machine.{check_due}

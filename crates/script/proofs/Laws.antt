@@ -13,7 +13,6 @@ use lib.Ieee.{Float}
 use Rattle.definition.specs.Number.{zero64}
 use Rattle.definition.specs.Problem as P
 use Rattle.definition.specs.Problem.{validate, ◌then◌}
-use Rattle.definition.specs.Machine as M
 use Rattle.definition.specs.Record.{Reading, check_area, read_record}
 use Rattle.definition.specs.Book.{Book}
 use Rattle.definition.specs.History as H

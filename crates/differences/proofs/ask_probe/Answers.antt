@@ -1,6 +1,5 @@
 -- `differences::ask_probe` meets its contract: the charge that is made asks, and one that is not ends the fit. Assumes nothing.
 use mathlib.Core.Path.{sym, ap, ◌∙◌}
-use borrow.Author.Rules.{rules}
 use Rattle.counters.specs.Counts.{charge_of}
 use Rattle.differences.proofs.Leads.{charged_leads, spent_leads}
 use Rattle.differences.proofs.ask_probe.Goals as goal

@@ -1,5 +1,4 @@
 -- `differences::both_probed` meets its contract: right of the coordinate, then left of it. Assumes nothing.
-use borrow.Author.Rules.{rules}
 use Rattle.differences.proofs.Laws.{right_probed, left_probed}
 use Rattle.differences.proofs.both_probed.Goals as goal
 

@@ -1,7 +1,5 @@
 -- `differences::next_probe` meets its contract: by whether the value is finite. Assumes nothing.
 use mathlib.Core.Path.{sym, ◌∙◌}
-use borrow.Author.Rules.{rules}
-use borrow.Author.Tests.{not-true, not-false}
 use Rattle.differences.proofs.Laws.{finite_probed, nonfinite_probed}
 use Rattle.differences.proofs.next_probe.Goals as goal
 

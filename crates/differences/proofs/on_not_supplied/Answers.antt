@@ -1,9 +1,7 @@
 -- `differences::on_not_supplied` meets its contract: the gradient is 0, and coordinate 0 follows. Assumes nothing.
-use borrow.Author.Rules.{rules}
 use lib.Ieee.{of_bits}
-use Rattle.fit.proofs.Laws.{first_room}
 use Rattle.differences.proofs.Laws.{gradient_put}
-use Rattle.differences.proofs.Leads.{leads_settled, leads_ready}
+use Rattle.differences.proofs.Leads.{leads_settled}
 use Rattle.differences.proofs.on_not_supplied.Goals as goal
 
 pub returns : goal.returns

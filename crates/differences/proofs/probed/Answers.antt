@@ -1,5 +1,4 @@
 -- `differences::probed` meets its contract: the component by what is probed. Assumes nothing.
-use borrow.Author.Rules.{rules}
 use lib.Ieee.{of_bits}
 use Rattle.definition.specs.Gradient.{right_quotient, left_quotient}
 use Rattle.differences.proofs.Laws.{quotient_probed}

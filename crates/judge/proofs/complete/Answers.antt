@@ -1,7 +1,5 @@
 -- `judge::complete` meets its contract: the gradient is counted, and its words decide. Assumes nothing.
-use mathlib.Core.Path.{refl, ap}
-use borrow.Author.Rules.{rules}
-use Rattle.definition.specs.Counters.{Counters}
+use mathlib.Core.Path.{refl}
 use Rattle.area.proofs.Laws.{saved_refl}
 use Rattle.fit.proofs.Laws.{stepped, steps_from}
 use Rattle.judge.proofs.Laws.{completed, completed_nonfinite}

@@ -2,7 +2,6 @@
 use mathlib.Core.Path.{refl, ap, ◌∙◌}
 use Prim.Native.Nat.{◌<◌}
 use native.Mathlib.Omega.{arith}
-use borrow.Author.Rules.{rules}
 use Rattle.area.specs.Area.{copy_of, first_pair, vector_x, vector_g, vector_trial_gradient}
 use Rattle.area.proofs.Laws.{saved_refl, saved_upd}
 use Rattle.fit.proofs.Laws.{moved, pairs_kept}

@@ -1,10 +1,9 @@
 -- `judge::judge_trial` meets its contract: the pair is kept and the trial moved to, or the search goes on or has failed. Assumes nothing.
 use mathlib.Core.Path.{ap}
-use borrow.Author.Rules.{rules}
 use Rattle.definition.specs.Machine.{Machine}
 use Rattle.definition.specs.Driver.{learn}
 use Rattle.search.specs.State.{verdict_of}
-use Rattle.search.proofs.Laws.{settled_step, judged_failed}
+use Rattle.search.proofs.Laws.{judged_failed}
 use Rattle.fit.proofs.Laws.{still, steps_as, steps_then}
 use Rattle.judge.proofs.Laws.{judged}
 use Rattle.judge.proofs.judge_trial.Goals as goal

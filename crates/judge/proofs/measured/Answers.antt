@@ -1,5 +1,4 @@
 -- `judge::measured` meets its contract: each place by the definition's clause for it. Assumes nothing.
-use borrow.Author.Rules.{rules}
 use Rattle.fit.proofs.Laws.{steps_then}
 use Rattle.judge.proofs.measured.Goals as goal
 

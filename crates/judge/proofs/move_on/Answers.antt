@@ -1,6 +1,5 @@
 -- `judge::move_on` meets its contract: the trial is held, the iteration charged, and notice given. Assumes nothing.
 use mathlib.Core.Path.{refl}
-use borrow.Author.Rules.{rules}
 use Rattle.counters.specs.Counts.{counters_of}
 use Rattle.fit.proofs.Laws.{still, steps_as, steps_then}
 use Rattle.judge.proofs.Laws.{noticing, moving}

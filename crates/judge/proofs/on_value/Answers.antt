@@ -1,6 +1,5 @@
 -- `judge::on_value` meets its contract: the value is put at its place, and the test decides. Assumes nothing.
 use mathlib.Core.Path.{sym, ◌∙◌}
-use borrow.Author.Rules.{rules}
 use Rattle.definition.specs.Driver.{on_value}
 use Rattle.fit.proofs.Laws.{turns_as, turns_then, phased}
 use Rattle.judge.proofs.on_value.Goals as goal

@@ -1,6 +1,5 @@
 -- `notice::on_go_on` meets its contract: its tests in order. Assumes nothing.
 use mathlib.Core.Path.{sym, ◌∙◌}
-use borrow.Author.Rules.{rules}
 use Rattle.area.specs.Area.{view}
 use Rattle.fit.proofs.Laws.{still, steps_as}
 use Rattle.notice.proofs.Laws.{go_on_spent, go_on_flat, go_on_level, go_on_again}

@@ -1,7 +1,6 @@
 -- `rebuild::copy_entries` meets its contract: the first i words are the record's. Assumes nothing.
 use native.Mathlib.Omega.{arith}
-use Prim.Native.Nat.{◌-◌}
-use Rattle.rebuild.proofs.Pasted.{copying_done, Copying, copying_none, laws}
+use Rattle.rebuild.proofs.Pasted.{copying_done, copying_none, laws}
 use Rattle.rebuild.proofs.copy_entries.Goals as goal
 
 pub loop-i-init : goal.loop-i-init

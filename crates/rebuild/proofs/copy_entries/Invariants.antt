@@ -1,6 +1,6 @@
 -- `rebuild::copy_entries` meets its contract: the first i words are the record's. Assumes nothing.
 use Prim.Native.Nat.{◌-◌}
-use Rattle.rebuild.proofs.Pasted.{Copying, copying_none, laws}
+use Rattle.rebuild.proofs.Pasted.{Copying}
 use Rattle.rebuild.proofs.copy_entries.Given as goal
 
 abbrev pub invariant-loop-i : goal.invariant-loop-i

@@ -1,13 +1,11 @@
 -- `rebuild::reload` meets its contract. Assumes nothing.
-use mathlib.Core.Path.{refl, sym, subst}
+use mathlib.Core.Path.{subst}
 use Prim.Native.Nat.{◌-◌}
-use native.Mathlib.Omega.{arith}
-use borrow.Author.Rules.{rules}
 use lib.ListN.{length}
 use Rattle.definition.specs.Record.{setup_in}
 use Rattle.record.specs.Records.{words_in}
 use Rattle.replay.specs.declared.Replayed.{Replayed}
-use Rattle.rebuild.specs.Built.{entries_in, Builds, Reloads}
+use Rattle.rebuild.specs.Built.{entries_in, Builds}
 use Rattle.rebuild.proofs.Recorded.{copies_within}
 use Rattle.rebuild.proofs.reload.Goals as goal
 

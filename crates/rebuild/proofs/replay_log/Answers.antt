@@ -1,7 +1,6 @@
 -- `rebuild::replay_log` meets its contract. Assumes nothing.
-use mathlib.Core.Path.{refl, sym, subst}
-use mathlib.Core.Bool.{true, false≢true}
-use borrow.Author.Rules.{rules}
+use mathlib.Core.Path.{sym, subst}
+use mathlib.Core.Bool.{false≢true}
 use Prim.Native.Nat.{◌≤◌, ◌<◌}
 use native.Mathlib.Omega.{arith}
 use lib.ListN.{length, take}

@@ -1,11 +1,10 @@
 -- `rebuild::replay_record` meets its contract. Assumes nothing.
 use mathlib.Core.Path.{◌≡◌, refl, sym}
-use mathlib.Core.Bool.{true, false, false≢true}
+use mathlib.Core.Bool.{false≢true}
 use native.Mathlib.Omega.{arith}
 use borrow.Author.Rules.{rules}
 use lib.ListN.{length}
-use Rattle.record.proofs.Floats.{opened_room}
-use Rattle.rebuild.proofs.Built.{markable, builds}
+use Rattle.rebuild.proofs.Built.{builds}
 use Rattle.rebuild.proofs.Recorded.{opens_room, entries_within, record_opened, record_ready}
 use Rattle.rebuild.proofs.replay_record.Goals as goal
 

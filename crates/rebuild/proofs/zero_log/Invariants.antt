@@ -1,6 +1,6 @@
 -- `rebuild::zero_log` meets its contract: the words up to i are zero. Assumes nothing.
 use Prim.Native.Nat.{◌-◌}
-use Rattle.rebuild.proofs.Pasted.{Striking, striking_none, laws}
+use Rattle.rebuild.proofs.Pasted.{Striking}
 use Rattle.rebuild.proofs.zero_log.Given as goal
 
 abbrev pub invariant-loop-i : goal.invariant-loop-i

@@ -1,11 +1,9 @@
 -- `replay::admitted` meets its contract: the held test, whether it is due, then the room. Assumes nothing.
 use mathlib.Core.Path.{sym, ◌∙◌}
 use native.Mathlib.Omega.{arith}
-use borrow.Author.Rules.{rules}
-use borrow.Author.Tests.{not-true, not-false}
 use Rattle.held.specs.Test.{is_ready}
 use Rattle.replay.specs.Taken.{is_due}
-use Rattle.replay.proofs.Laws.{due_is, undue_is, not_ready, not_due, no_room, room_left}
+use Rattle.replay.proofs.Laws.{due_is, undue_is, not_due, no_room, room_left}
 use Rattle.replay.proofs.admitted.Goals as goal
 
 pub returns-in_default : goal.returns-in_default

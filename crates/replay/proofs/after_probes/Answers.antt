@@ -1,7 +1,5 @@
 -- `replay::after_probes` meets its contract: nothing moves, or a run from the probe that is asked. Assumes nothing.
 use mathlib.Core.Path.{sym, ◌∙◌}
-use borrow.Author.Rules.{rules}
-use borrow.Author.Tests.{not-false}
 use Rattle.held.proofs.Test.{ready_facts}
 use Rattle.replay.specs.Taken.{Run}
 use Rattle.replay.proofs.Runs.{at_probe, probe_below}

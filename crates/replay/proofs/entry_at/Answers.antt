@@ -1,11 +1,10 @@
 -- `replay::entry_at` meets its contract: unknown, cut, a value, or any other kind. Assumes nothing.
 use native.Mathlib.Omega.{arith}
-use borrow.Author.Rules.{rules}
 use Prim.Native.Nat.{◌<◌}
 use lib.ListN.{length}
 use Rattle.replay.specs.Replays.{source_words}
 use Rattle.replay.proofs.Words.{source_count}
-use Rattle.replay.proofs.Entries.{unknown_at, cut_at, value_count, value_at_lem, reply_at_lem}
+use Rattle.replay.proofs.Entries.{cut_at, value_at_lem, reply_at_lem}
 use Rattle.replay.proofs.entry_at.Goals as goal
 
 pub returns-then-source-at : goal.returns-then-source-at

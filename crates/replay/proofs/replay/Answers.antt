@@ -1,12 +1,8 @@
 -- `replay::replay` meets its contract: at each turn what is reached is the definition's reading of as many entries. Assumes nothing.
-use Prim.Native.Nat.{◌-◌}
-use mathlib.Core.Path.{◌∙◌}
 use mathlib.Core.Logic.{inl, inr}
 use native.Mathlib.Omega.{arith}
-use borrow.Author.Rules.{rules}
-use Rattle.replay.specs.Replays.{source_words}
 use Rattle.replay.proofs.Words.{source_count}
-use Rattle.replay.proofs.Laws.{Reached, reached_first, reached_more, reached_run, reached_done, reached_refused, next_took, took_more}
+use Rattle.replay.proofs.Laws.{reached_first, reached_more, reached_run, reached_done, reached_refused, next_took, took_more}
 use Rattle.replay.proofs.Runs.{run_least}
 use Rattle.replay.proofs.replay.Goals as goal
 

@@ -2,7 +2,6 @@
 use Prim.Native.Nat.{◌<◌}
 use mathlib.Core.Path.{subst}
 use native.Mathlib.Omega.{arith}
-use borrow.Author.Rules.{rules}
 use lib.ListN.{length}
 use Rattle.held.proofs.Test.{ready_facts}
 use Rattle.replay.specs.Replays.{source_words}

@@ -1,7 +1,6 @@
 -- `replay::source_word` meets its contract: a word of the record, or of the log. Assumes nothing.
 use mathlib.Core.Path.{◌∙◌}
-use native.Mathlib.Omega.{arith}
-use Rattle.replay.proofs.Words.{recorded_word, logged_word}
+use Rattle.replay.proofs.Words.{recorded_word}
 use Rattle.replay.proofs.source_word.Goals as goal
 
 pub returns-then-source : goal.returns-then-source

@@ -1,15 +1,12 @@
 -- `replay::store_bytes` meets its contract: in its loop word i of the trial's gradient becomes the float of eight bytes. Assumes nothing.
-use mathlib.Core.Path.{ap, ◌∙◌}
 use mathlib.Core.List.{map}
 use Prim.Native.Nat.{◌-◌}
-use native.Mathlib.Omega.{arith}
 use lib.ListN.{drop}
 use Rattle.definition.specs.Number.{to_float}
 use Rattle.definition.specs.Vector.{word}
 use Rattle.definition.specs.Record.{words_of}
 use Rattle.area.specs.Area.{vector_trial_gradient}
-use Rattle.area.proofs.Laws.{Row, row_none, row_more, row_stored, laws}
-use Rattle.replay.proofs.Words.{byte_float, byte_floats}
+use Rattle.area.proofs.Laws.{Row}
 use Rattle.replay.proofs.store_bytes.Given as goal
 
 abbrev pub invariant-loop-i : goal.invariant-loop-i

@@ -2,8 +2,6 @@
 use mathlib.Core.Path.{ap, ◌∙◌}
 use mathlib.Core.List.{List, map}
 use Prim.Native.Nat.{ℕ}
-use native.Mathlib.Omega.{arith}
-use borrow.Author.Rules.{rules}
 use Rattle.definition.specs.Number.{to_float}
 use Rattle.area.specs.Area.{view, upd, vector_trial_gradient}
 use Rattle.replay.proofs.Words.{recorded_words, logged_words}

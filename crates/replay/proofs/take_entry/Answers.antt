@@ -1,12 +1,10 @@
 -- `replay::take_entry` meets its contract: a gradient is stored ahead of the driver's step. Assumes nothing.
-use native.Mathlib.Omega.{arith}
-use borrow.Author.Rules.{rules}
 use Rattle.fit.proofs.Laws.{first_room}
 use Rattle.held.proofs.Test.{ready_facts}
 use Rattle.replay.specs.Replays.{source_words}
 use Rattle.replay.specs.Taken.{gradient_at}
 use Rattle.replay.proofs.Entries.{gradient_fits}
-use Rattle.driver.proofs.Answers.{gradient_steps, other_steps}
+use Rattle.driver.proofs.Answers.{gradient_steps}
 use Rattle.replay.proofs.take_entry.Goals as goal
 
 pub advance-requires : goal.advance-requires

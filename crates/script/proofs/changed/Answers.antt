@@ -1,7 +1,6 @@
 -- `script::changed` meets its contract: each op by its tests and the operation for it. Assumes nothing.
-use borrow.Author.Tests.{eq-eqb, ne_eqb, lt-ltb, le-ltb}
+use borrow.Author.Tests.{ne_eqb, lt-ltb, le-ltb}
 use Rattle.script.proofs.Laws.{step_as}
-use borrow.Author.Rules.{rules}
 use Rattle.script.proofs.changed.Goals as goal
 
 pub returns-then-op-lt7 : goal.returns-then-op-lt7

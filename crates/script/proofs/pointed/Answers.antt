@@ -2,7 +2,6 @@
 use mathlib.Core.Path.{refl}
 use borrow.Author.Tests.{eq-eqb, ne_eqb}
 use Rattle.script.proofs.Laws.{read_shows, shown_asked, shown_told}
-use borrow.Author.Rules.{rules}
 use Rattle.script.proofs.pointed.Goals as goal
 
 pub returns-then-op-eq9 : goal.returns-then-op-eq9

@@ -1,8 +1,7 @@
 -- `script::read` meets its contract: each op by its tests and the operation for it. Assumes nothing.
 use mathlib.Core.Path.{refl}
-use borrow.Author.Tests.{eq-eqb, ne_eqb, lt-ltb, le-ltb}
-use Rattle.script.proofs.Laws.{shows_as, read_shows, count_shows, shown_entered, shown_saved}
-use borrow.Author.Rules.{rules}
+use borrow.Author.Tests.{eq-eqb, ne_eqb, le-ltb}
+use Rattle.script.proofs.Laws.{read_shows, count_shows, shown_entered, shown_saved}
 use Rattle.script.proofs.read.Goals as goal
 
 pub returns-then-op-eq11 : goal.returns-then-op-eq11

@@ -2,7 +2,6 @@
 use mathlib.Core.Path.{sym, ap}
 use Rattle.definition.specs.History.{Call}
 use Rattle.script.proofs.Laws.{step_as, part_is}
-use borrow.Author.Rules.{rules}
 use Rattle.script.proofs.restored_from.Goals as goal
 
 pub returns : goal.returns

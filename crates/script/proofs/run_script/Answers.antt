@@ -1,14 +1,9 @@
 -- `script::run_script` meets its contract: one call more with each turn. Assumes nothing.
-use Prim.Native.Nat.{◌≤◌, ◌-◌, ◌/◌}
-use mathlib.Core.Path.{◌≡◌, refl, ap, ◌∙◌}
+use mathlib.Core.Path.{refl, ◌∙◌}
 use native.Mathlib.Omega.{arith}
 use borrow.Author.Rules.{rules}
-use lib.ListN.{length}
-use Rattle.definition.specs.Record.{Lengths}
-use Rattle.problem.specs.Setups.{setup_in}
 use Rattle.lbfgsb.specs.Words.{words}
-use Rattle.script.specs.Script.{given, shown, Runs}
-use Rattle.script.proofs.Laws.{calls_to, given_same, ran_none, ran_more, ran_all}
+use Rattle.script.proofs.Laws.{given_same, ran_none, ran_more, ran_all}
 use Rattle.script.proofs.run_script.Goals as goal
 
 pub loop-i-init : goal.loop-i-init

@@ -1,14 +1,11 @@
 -- `script::run_script` meets its contract: one call more with each turn. Assumes nothing.
 use Prim.Native.Nat.{◌≤◌, ◌-◌, ◌/◌}
-use mathlib.Core.Path.{◌≡◌, refl, ap, ◌∙◌}
-use native.Mathlib.Omega.{arith}
-use borrow.Author.Rules.{rules}
+use mathlib.Core.Path.{◌≡◌}
 use lib.ListN.{length}
-use Rattle.definition.specs.Record.{Lengths}
 use Rattle.problem.specs.Setups.{setup_in}
 use Rattle.lbfgsb.specs.Words.{words}
 use Rattle.script.specs.Script.{given, shown, Runs}
-use Rattle.script.proofs.Laws.{calls_to, given_same, ran_none, ran_more, ran_all}
+use Rattle.script.proofs.Laws.{calls_to}
 use Rattle.script.proofs.run_script.Given as goal
 
 abbrev pub invariant-loop-i : goal.invariant-loop-i

@@ -1,7 +1,6 @@
 -- `script::step` meets its contract: a call that changes the words, or one that reads them. Assumes nothing.
-use borrow.Author.Tests.{lt-ltb, le-ltb}
-use Rattle.script.proofs.Laws.{kept_shows, shows_as}
-use borrow.Author.Rules.{rules}
+use borrow.Author.Tests.{lt-ltb}
+use Rattle.script.proofs.Laws.{kept_shows}
 use Rattle.script.proofs.step.Goals as goal
 
 pub returns-then-c-lt9 : goal.returns-then-c-lt9
