@@ -1,7 +1,7 @@
 -- Laws of checks, one after the other. Assumes nothing.
 use mathlib.Core.Path.{◌≡◌, refl, sym, ap, ◌∙◌}
 use mathlib.Core.Option.{none, some}
-use Rattle.definition.specs.Problem.{Refusal, Check, ◌then◌}
+use Rattle.definition.specs.Problem.{Check, ◌then◌}
 use Rattle.problem.specs.Setups.{check_of, refusal_of}
 use Rattle.problem.specs.declared.Refusal as D
 use Rattle.problem.specs.declared.Checked.{Checked}

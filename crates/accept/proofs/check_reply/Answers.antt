@@ -1,8 +1,6 @@
 -- `accept::check_reply` meets its contract: whether the reply is due, its length, its room. Assumes nothing.
 use Prim.Native.Nat.{ℕ, ◌+◌}
-use native.Mathlib.Omega.{arith}
 use mathlib.Core.Path.{sym, ap, ◌∙◌}
-use borrow.Author.Rules.{rules}
 use lib.Dec.{ltb}
 use Rattle.definition.specs.Problem.{refuse, when}
 use Rattle.record.specs.Records.{entry_size}

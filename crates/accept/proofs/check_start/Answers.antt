@@ -1,8 +1,6 @@
 -- `accept::check_start` meets its contract. Assumes nothing.
-use mathlib.Core.Path.{◌∙◌}
-use borrow.Author.Rules.{rules}
 use Rattle.definition.proofs.Accepted.{accepted_in_limits}
-use Rattle.accept.proofs.Checks.{passed, first_refuses, rest_decides}
+use Rattle.accept.proofs.Checks.{passed}
 use Rattle.accept.proofs.check_start.Goals as goal
 
 pub check_area-requires : goal.check_area-requires

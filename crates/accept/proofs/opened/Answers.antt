@@ -1,5 +1,4 @@
 -- `accept::opened` meets its contract: opened, and marked. Assumes nothing.
-use borrow.Author.Rules.{rules}
 use lib.ListN.{length}
 use Rattle.problem.specs.Setups.{setup_in}
 use Rattle.held.proofs.Test.{ready_facts}

@@ -2,7 +2,6 @@
 use mathlib.Core.Bool.{not}
 use mathlib.Core.Path.{ap}
 use Rattle.cauchy.proofs.Segments.{along_fails, along_ends, along_leads}
-use borrow.Author.Rules.{rules}
 use Rattle.cauchy.proofs.along.Goals as goal
 
 pub returns-then-not-is_finite : goal.returns-then-not-is_finite

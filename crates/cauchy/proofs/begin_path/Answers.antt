@@ -1,7 +1,6 @@
 -- `cauchy::begin_path` meets its contract: the three vectors of the path are made. Assumes nothing.
 use Rattle.float.proofs.Constants.{zero_is}
 use Rattle.cauchy.proofs.Paths.{begins}
-use borrow.Author.Rules.{rules}
 use Rattle.cauchy.proofs.begin_path.Goals as goal
 
 pub returns : goal.returns

@@ -1,9 +1,7 @@
 -- `cauchy::by_slope` meets its contract, test by test. Assumes nothing.
 use mathlib.Core.Path.{sym, ◌∙◌}
-use borrow.Author.Tests.{not-true, not-false}
 use Rattle.float.proofs.Constants.{zero_is}
 use Rattle.cauchy.proofs.Segments.{slope_fails, slope_ends, slope_goes}
-use borrow.Author.Rules.{rules}
 use Rattle.cauchy.proofs.by_slope.Goals as goal
 
 pub returns-then-not-is_finite : goal.returns-then-not-is_finite

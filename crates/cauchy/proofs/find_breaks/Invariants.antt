@@ -1,8 +1,7 @@
 -- `cauchy::find_breaks` meets its contract: b holds the breaks of the first i coordinates. Assumes nothing.
 use Prim.Native.Nat.{◌-◌}
-use borrow.Author.Rules.{rules}
 use Rattle.area.specs.Area.{view}
-use Rattle.cauchy.proofs.Order.{Finding, finding_none, finding_more, finding_ordered, finding_done}
+use Rattle.cauchy.proofs.Order.{Finding}
 use Rattle.cauchy.proofs.find_breaks.Given as goal
 
 abbrev pub invariant-loop-i : goal.invariant-loop-i

@@ -1,11 +1,8 @@
 -- `cauchy::generalized_cauchy` meets its contract: the path is on its way from its start. Assumes nothing.
-use mathlib.Core.Path.{◌≡◌, refl, ◌∙◌}
-use borrow.Author.Rules.{rules}
-use lib.ListN.{length}
-use Rattle.area.specs.Area.{view}
+use mathlib.Core.Path.{◌∙◌}
 use Rattle.area.proofs.Laws.{scratch_trans}
 use Rattle.compact.proofs.Models.{prepared_kept}
-use Rattle.cauchy.proofs.Segments.{Walking, walking_none, walking_more, walking_ends, walking_stops, walks}
+use Rattle.cauchy.proofs.Segments.{walking_more, walking_ends, walking_stops, walks}
 use Rattle.cauchy.proofs.generalized_cauchy.Goals as goal
 
 pub segment_from-segment-requires : goal.segment_from-segment-requires

@@ -1,7 +1,6 @@
 -- `cauchy::insert_in` meets its contract: what is left to sift is what there was. Assumes nothing.
-use mathlib.Core.Path.{◌≡◌, refl, sym, ◌∙◌}
+use mathlib.Core.Path.{sym, ◌∙◌}
 use native.Mathlib.Omega.{arith}
-use borrow.Author.Rules.{rules}
 use lib.ListN.{length-set}
 use Rattle.cauchy.proofs.Order.{sift_moves, sift_rests, sift_first}
 use Rattle.cauchy.proofs.insert_in.Goals as goal

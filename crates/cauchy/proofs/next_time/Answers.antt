@@ -3,8 +3,7 @@ use mathlib.Core.Path.{sym, ap, ◌∙◌}
 use native.Mathlib.Omega.{arith}
 use Rattle.definition.specs.Geometry.{Break}
 use Rattle.cauchy.specs.State.{break_of}
-use Rattle.cauchy.proofs.Order.{break_get, break_past}
-use borrow.Author.Rules.{rules}
+use Rattle.cauchy.proofs.Order.{break_get}
 use Rattle.cauchy.proofs.next_time.Goals as goal
 
 pub returns-then-event-breaks : goal.returns-then-event-breaks

@@ -1,6 +1,5 @@
 -- `cauchy::pass` meets its contract: the segment is travelled, and every break at its end stops. Assumes nothing.
 use Rattle.cauchy.proofs.Paths.{passes}
-use borrow.Author.Rules.{rules}
 use Rattle.cauchy.proofs.pass.Goals as goal
 
 pub returns : goal.returns

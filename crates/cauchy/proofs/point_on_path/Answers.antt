@@ -1,6 +1,5 @@
 -- `cauchy::point_on_path` meets its contract: the point is made, and tested. Assumes nothing.
 use Rattle.cauchy.proofs.Paths.{points}
-use borrow.Author.Rules.{rules}
 use Rattle.cauchy.proofs.point_on_path.Goals as goal
 
 pub returns : goal.returns

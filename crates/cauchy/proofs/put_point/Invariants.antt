@@ -1,8 +1,7 @@
 -- `cauchy::put_point` meets its contract: word i of the point is made of the words at i. Assumes nothing.
 use Prim.Native.Nat.{◌-◌}
-use native.Mathlib.Omega.{arith}
 use Rattle.area.specs.Area.{vector_cauchy}
-use Rattle.area.proofs.Laws.{Row, row_none, laws}
+use Rattle.area.proofs.Laws.{Row}
 use Rattle.cauchy.specs.State.{point_in}
 use Rattle.cauchy.proofs.put_point.Given as goal
 

@@ -5,7 +5,6 @@ use native.Mathlib.Omega.{arith}
 use Rattle.area.specs.Area.{vector_product_d}
 use Rattle.compact.proofs.Models.{prepared_kept}
 use Rattle.cauchy.proofs.Segments.{product_kept, segment_ends, segment_fails₁, segment_fails₂, segment_goes}
-use borrow.Author.Rules.{rules}
 use Rattle.cauchy.proofs.segment_from.Goals as goal
 
 pub returns-then-still : goal.returns-then-still

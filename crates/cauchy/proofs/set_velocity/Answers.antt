@@ -1,8 +1,6 @@
 -- `cauchy::set_velocity` meets its contract: word i of the velocity is made of the words at i. Assumes nothing.
-use Prim.Native.Nat.{◌-◌}
 use native.Mathlib.Omega.{arith}
-use Rattle.area.proofs.Laws.{Row, row_none, laws}
-use Rattle.cauchy.specs.State.{velocity_in}
+use Rattle.area.proofs.Laws.{row_none, laws}
 use Rattle.cauchy.proofs.set_velocity.Goals as goal
 
 pub loop-i-init : goal.loop-i-init

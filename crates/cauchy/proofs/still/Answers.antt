@@ -1,11 +1,7 @@
 -- `cauchy::still` meets its contract: ok tells of the first i words. Assumes nothing.
-use Prim.Native.Nat.{◌-◌}
 use native.Mathlib.Omega.{arith}
-use mathlib.Core.Bool.{true, ◌&&◌}
-use lib.Ieee as Ieee
-use Rattle.definition.specs.Number.{zero64}
-use Rattle.area.specs.Area.{fold_rows, vector_velocity}
-use Rattle.area.proofs.Laws.{Folded, fold_none, fold_done, laws}
+use Rattle.area.specs.Area.{fold_rows}
+use Rattle.area.proofs.Laws.{fold_none, fold_done, laws}
 use Rattle.cauchy.proofs.still.Goals as goal
 
 pub loop-i-init : goal.loop-i-init

@@ -1,7 +1,6 @@
 -- `cauchy::stop` meets its contract: the bound that is met, and three stores. Assumes nothing.
 use Rattle.float.proofs.Constants.{zero_is}
 use Rattle.cauchy.proofs.Paths.{stops}
-use borrow.Author.Rules.{rules}
 use Rattle.cauchy.proofs.stop.Goals as goal
 
 pub returns : goal.returns

@@ -1,11 +1,6 @@
 -- `cauchy::stop_all` meets its contract: the path is on its way from where it was. Assumes nothing.
-use mathlib.Core.Path.{◌≡◌, refl, ◌∙◌}
-use Prim.Native.Nat.{◌-◌}
-use native.Mathlib.Omega.{arith}
-use borrow.Author.Rules.{rules}
-use lib.ListN.{length}
-use Rattle.area.specs.Area.{view}
-use Rattle.cauchy.proofs.Paths.{Stopping, stopping_none, stopping_more, stopping_rest, stopping_past, stopped_event}
+use mathlib.Core.Path.{◌∙◌}
+use Rattle.cauchy.proofs.Paths.{stopping_more, stopping_rest, stopping_past}
 use Rattle.cauchy.proofs.stop_all.Goals as goal
 
 pub loop-reached-preserved : goal.loop-reached-preserved

@@ -1,11 +1,9 @@
 -- `cauchy::stop_all` meets its contract: the path is on its way from where it was. Assumes nothing.
-use mathlib.Core.Path.{◌≡◌, refl, ◌∙◌}
+use mathlib.Core.Path.{◌≡◌}
 use Prim.Native.Nat.{◌-◌}
-use native.Mathlib.Omega.{arith}
-use borrow.Author.Rules.{rules}
 use lib.ListN.{length}
 use Rattle.area.specs.Area.{view}
-use Rattle.cauchy.proofs.Paths.{Stopping, stopping_none, stopping_more, stopping_rest, stopping_past, stopped_event}
+use Rattle.cauchy.proofs.Paths.{Stopping}
 use Rattle.cauchy.proofs.stop_all.Given as goal
 
 abbrev pub invariant-loop-reached : goal.invariant-loop-reached

@@ -1,9 +1,6 @@
 -- `cauchy::travel` meets its contract: word i of the displacement has moved on. Assumes nothing.
-use Prim.Native.Nat.{◌-◌}
 use native.Mathlib.Omega.{arith}
-use Rattle.definition.specs.Number.{plus, times}
-use Rattle.area.specs.Area.{vector_velocity, vector_displacement}
-use Rattle.area.proofs.Laws.{Row, row_none, laws}
+use Rattle.area.proofs.Laws.{row_none, laws}
 use Rattle.cauchy.proofs.travel.Goals as goal
 
 pub loop-i-init : goal.loop-i-init

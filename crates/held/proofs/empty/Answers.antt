@@ -1,6 +1,5 @@
 -- `held::empty` meets its contract: no coordinates are held by no area. Assumes nothing.
 use mathlib.Core.Path.{refl}
-use borrow.Author.Rules.{rules}
 use Rattle.held.proofs.Laws.{no_coordinates}
 use Rattle.held.proofs.empty.Goals as goal
 

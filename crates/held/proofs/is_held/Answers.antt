@@ -1,12 +1,9 @@
 -- `held::is_held` meets its contract: the test of the state, then the mark. Assumes nothing.
 use mathlib.Core.Path.{sym, ◌∙◌}
 use native.Mathlib.Omega.{arith}
-use borrow.Author.Tests.{not-true, not-false}
-use borrow.Author.Rules.{rules}
-use lib.ListN.{length}
 use Rattle.float.proofs.Constants.{one_is}
 use Rattle.held.proofs.Test.{ready_facts}
-use Rattle.held.proofs.Parts.{Behind, unready_unheld, ready_marked, mark_behind, mark_most}
+use Rattle.held.proofs.Parts.{unready_unheld, ready_marked, mark_behind, mark_most}
 use Rattle.held.proofs.is_held.Goals as goal
 
 pub returns-then-not-is_ready : goal.returns-then-not-is_ready

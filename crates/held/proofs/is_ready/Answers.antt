@@ -1,11 +1,6 @@
 -- `held::is_ready` meets its contract: the tests in their order. Assumes nothing.
-use mathlib.Core.Path.{◌≡◌, sym, ◌∙◌}
-use mathlib.Core.Bool.{true}
-use borrow.Author.Tests.{eq-eqb, ne_eqb, not-true, not-false}
-use borrow.Author.Rules.{rules}
-use lib.Dec.{eqb}
-use Rattle.problem.specs.Setups.{places_in}
-use Rattle.held.specs.Test.{shape_held, counts_held, log_held}
+use mathlib.Core.Path.{sym, ◌∙◌}
+use borrow.Author.Tests.{eq-eqb, ne_eqb}
 use Rattle.held.proofs.Parts.{shape_fails, places_fail, counts_fail, log_fails, phase_left}
 use Rattle.held.proofs.is_ready.Goals as goal
 

@@ -1,6 +1,5 @@
 -- `held::mark` meets its contract: the mark's word lies behind the vectors, within the area. Assumes nothing.
 use native.Mathlib.Omega.{arith}
-use borrow.Author.Rules.{rules}
 use Rattle.float.proofs.Constants.{one_is}
 use Rattle.held.proofs.Parts.{mark_behind, mark_most, marks}
 use Rattle.held.proofs.mark.Goals as goal

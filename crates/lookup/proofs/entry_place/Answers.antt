@@ -1,9 +1,5 @@
 -- `lookup::entry_place` meets its contract; in its loop i entries are skipped. Assumes nothing.
-use Prim.Native.Nat.{◌-◌}
-use native.Mathlib.Omega.{arith}
-use borrow.Author.Rules.{rules}
-use lib.ListN.{take}
-use Rattle.lookup.proofs.Entries.{Skips, skips_none, skips_next, skips_end, skips_done, front_end, front_unknown, front_cut}
+use Rattle.lookup.proofs.Entries.{skips_next, skips_end, skips_done, front_end, front_unknown, front_cut}
 use Rattle.lookup.proofs.entry_place.Goals as goal
 
 pub returns-then-words-at : goal.returns-then-words-at

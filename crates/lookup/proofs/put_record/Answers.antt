@@ -1,6 +1,4 @@
 -- `lookup::put_record` meets its contract: the parts lent are the start, the bounds and the log's words. Assumes nothing.
-use native.Mathlib.Omega.{arith}
-use borrow.Author.Rules.{rules}
 use Rattle.lookup.proofs.Saving.{record_lent, record_put}
 use Rattle.lookup.proofs.put_record.Goals as goal
 

@@ -1,9 +1,7 @@
 -- `opening::clip_start` meets its contract; in its loop the first i words of the point are made. Assumes nothing.
-use Prim.Native.Nat.{◌-◌}
 use native.Mathlib.Omega.{arith}
-use Rattle.definition.specs.Number.{clamp}
-use Rattle.area.specs.Area.{rowwise, vector_x, vector_x0, vector_lower, vector_upper}
-use Rattle.area.proofs.Laws.{Row, row_none, row_done, laws}
+use Rattle.area.specs.Area.{rowwise}
+use Rattle.area.proofs.Laws.{row_none, row_done, laws}
 use Rattle.opening.proofs.clip_start.Goals as goal
 
 pub loop-i-preserved : goal.loop-i-preserved

@@ -1,9 +1,8 @@
 -- `opening::clip_start` meets its contract; in its loop the first i words of the point are made. Assumes nothing.
 use Prim.Native.Nat.{◌-◌}
-use native.Mathlib.Omega.{arith}
 use Rattle.definition.specs.Number.{clamp}
-use Rattle.area.specs.Area.{rowwise, vector_x, vector_x0, vector_lower, vector_upper}
-use Rattle.area.proofs.Laws.{Row, row_none, row_done, laws}
+use Rattle.area.specs.Area.{vector_x, vector_x0, vector_lower, vector_upper}
+use Rattle.area.proofs.Laws.{Row}
 use Rattle.opening.proofs.clip_start.Given as goal
 
 abbrev pub invariant-loop-i : goal.invariant-loop-i

@@ -1,6 +1,5 @@
 -- `opening::first_fit` meets its contract. Assumes nothing.
 use mathlib.Core.Path.{refl}
-use borrow.Author.Rules.{rules}
 use lib.Ieee.{of_bits}
 use Rattle.definition.specs.Vector.{tab}
 use Rattle.compact.specs.State.{pairs_of}

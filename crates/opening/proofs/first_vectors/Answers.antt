@@ -1,5 +1,4 @@
 -- `opening::first_vectors` meets its contract. Assumes nothing.
-use borrow.Author.Rules.{rules}
 use lib.Ieee.{of_bits}
 use Rattle.area.specs.Area.{view}
 use Rattle.opening.proofs.Laws.{first_made}

@@ -1,5 +1,4 @@
 -- `opening::open_box` meets its contract. Assumes nothing.
-use borrow.Author.Rules.{rules}
 use Rattle.opening.proofs.Laws.{box_opened}
 use Rattle.opening.proofs.open_box.Goals as goal
 

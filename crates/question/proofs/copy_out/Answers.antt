@@ -1,9 +1,6 @@
 -- `question::copy_out` meets its contract; in its loop the first i words are written. Assumes nothing.
-use Prim.Native.Nat.{◌-◌}
 use native.Mathlib.Omega.{arith}
-use Rattle.definition.specs.Vector.{word}
-use Rattle.area.specs.Area.{view}
-use Rattle.question.proofs.Laws.{Front, front_none, front_word, laws}
+use Rattle.question.proofs.Laws.{front_none, front_word, laws}
 use Rattle.question.proofs.copy_out.Goals as goal
 
 pub loop-i-init : goal.loop-i-init

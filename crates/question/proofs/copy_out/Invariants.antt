@@ -1,9 +1,8 @@
 -- `question::copy_out` meets its contract; in its loop the first i words are written. Assumes nothing.
 use Prim.Native.Nat.{◌-◌}
-use native.Mathlib.Omega.{arith}
 use Rattle.definition.specs.Vector.{word}
 use Rattle.area.specs.Area.{view}
-use Rattle.question.proofs.Laws.{Front, front_none, front_word, laws}
+use Rattle.question.proofs.Laws.{Front}
 use Rattle.question.proofs.copy_out.Given as goal
 
 abbrev pub invariant-loop-i : goal.invariant-loop-i

@@ -1,6 +1,5 @@
 -- `question::put_probe` meets its contract: the trial point is copied, and its word i replaced. Assumes nothing.
 use native.Mathlib.Omega.{arith}
-use borrow.Author.Rules.{rules}
 use Rattle.area.specs.Area.{view, vector_trial}
 use Rattle.area.proofs.Laws.{length-view}
 use mathlib.Core.Path.{refl, ◌∙◌}
