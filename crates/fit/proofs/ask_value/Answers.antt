@@ -1,6 +1,5 @@
 -- `fit::ask_value` meets its contract: the charge says whether the budget lasts. Assumes nothing.
 use mathlib.Core.Path.{refl, sym, ap, ◌∙◌}
-use borrow.Author.Rules.{rules}
 use Rattle.counters.specs.Counts.{charge_of}
 use Rattle.fit.proofs.Laws.{turns_as, charge_asks, charge_ends}
 use Rattle.fit.proofs.ask_value.Goals as goal

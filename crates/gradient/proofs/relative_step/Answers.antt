@@ -1,5 +1,4 @@
 -- `gradient::relative_step` meets its contract. Assumes nothing.
-use borrow.Author.Rules.{rules}
 use Rattle.float.proofs.Constants.{root_epsilon_is, cube_root_epsilon_is}
 use Rattle.gradient.proofs.relative_step.Goals as goal
 

@@ -1,5 +1,4 @@
 -- `iteration::descend` meets its contract: to the ends of the model, else without the pairs if there are any. Assumes nothing.
-use borrow.Author.Rules.{rules}
 use Rattle.iteration.proofs.Laws.{descend_towards, descend_ends, descend_again}
 use Rattle.iteration.proofs.descend.Goals as goal
 

@@ -1,5 +1,4 @@
 -- `iteration::iterate` meets its contract: the test of gtol comes first. Assumes nothing.
-use borrow.Author.Rules.{rules}
 use Rattle.fit.proofs.Laws.{still, steps_as}
 use Rattle.iteration.proofs.Laws.{iterate_ends, iterate_on}
 use Rattle.iteration.proofs.iterate.Goals as goal

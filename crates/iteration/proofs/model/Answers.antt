@@ -1,8 +1,5 @@
 -- `iteration::model` meets its contract: no Cauchy point, or what the minimum over its free coordinates gives. Assumes nothing.
-use mathlib.Core.Path.{refl, ◌∙◌}
-use native.Mathlib.Omega.{arith}
-use borrow.Author.Rules.{rules}
-use borrow.Author.Tests.{not-true, not-false}
+use mathlib.Core.Path.{◌∙◌}
 use Rattle.compact.proofs.Models.{modelled_kept, prepared, prepared_kept}
 use Rattle.iteration.proofs.Laws.{no_point, from_point}
 use Rattle.iteration.proofs.model.Goals as goal

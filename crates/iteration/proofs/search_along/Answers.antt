@@ -1,9 +1,7 @@
 -- `iteration::search_along` meets its contract: it ends, or tries the first step. Assumes nothing.
 use mathlib.Core.Path.{ap}
-use borrow.Author.Rules.{rules}
 use Rattle.search.specs.State.{verdict_of}
-use Rattle.search.proofs.Laws.{settled_step}
-use Rattle.fit.proofs.Laws.{still, steps_as, first_room}
+use Rattle.fit.proofs.Laws.{still, steps_as}
 use Rattle.iteration.proofs.Branches.{along, along_failed}
 use Rattle.iteration.proofs.search_along.Goals as goal
 

@@ -1,6 +1,4 @@
 -- `iteration::towards` meets its contract: the direction stands in its vector, and the search goes along it. Assumes nothing.
-use borrow.Author.Rules.{rules}
-use Rattle.fit.proofs.Laws.{first_room}
 use Rattle.iteration.proofs.Laws.{directed_along}
 use Rattle.iteration.proofs.towards.Goals as goal
 

@@ -1,5 +1,4 @@
 -- `iteration::without_pairs` meets its contract: the pairs are dropped, and the model without them decides. Assumes nothing.
-use borrow.Author.Rules.{rules}
 use Rattle.iteration.proofs.Laws.{again_towards, again_ends}
 use Rattle.iteration.proofs.without_pairs.Goals as goal
 

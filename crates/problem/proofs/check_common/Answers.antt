@@ -1,5 +1,4 @@
 -- `problem::check_common` meets its contract. Assumes nothing.
-use borrow.Author.Rules.{rules}
 use Rattle.definition.specs.Problem.{check_common}
 use Rattle.problem.proofs.check_common.Goals as goal
 

@@ -1,5 +1,4 @@
 -- `problem::check_limits` meets its contract. Assumes nothing.
-use borrow.Author.Rules.{rules}
 use Rattle.definition.specs.Problem.{check_limits}
 use Rattle.problem.proofs.check_limits.Goals as goal
 

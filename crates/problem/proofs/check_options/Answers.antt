@@ -1,5 +1,4 @@
 -- `problem::check_options` meets its contract. Assumes nothing.
-use borrow.Author.Rules.{rules}
 use Rattle.definition.specs.Problem.{check_options}
 use Rattle.problem.proofs.check_options.Goals as goal
 

@@ -1,12 +1,8 @@
 -- `problem::check_pairs` meets its contract. The loop's invariant: every check below i has passed. Assumes nothing.
 use native.Mathlib.Omega.{arith}
 use mathlib.Core.Path.{sym, ap, ◌∙◌}
-use Prim.Native.Nat.{◌-◌}
-use borrow.Author.Rules.{rules}
-use lib.ListN.{length}
-use Rattle.definition.specs.Problem.{check_pair}
-use Rattle.problem.specs.Setups.{box_of, check_of}
-use Rattle.problem.proofs.Laws.{Clear, clear_none, clear_more, clear_done, clear_refused}
+use Rattle.problem.specs.Setups.{check_of}
+use Rattle.problem.proofs.Laws.{clear_none, clear_more, clear_refused}
 use Rattle.problem.proofs.check_pairs.Goals as goal
 
 pub loop-i-init : goal.loop-i-init

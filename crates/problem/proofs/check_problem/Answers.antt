@@ -1,6 +1,5 @@
 -- `problem::check_problem` meets its contract. Assumes nothing.
 use borrow.Author.Tests.{eq-eqb, ne_eqb}
-use borrow.Author.Rules.{rules}
 use Rattle.definition.specs.Problem.{check_problem}
 use Rattle.problem.proofs.Laws.{then_none}
 use Rattle.problem.proofs.check_problem.Goals as goal

@@ -1,14 +1,7 @@
 -- `problem::check_start` meets its contract. The loop's invariant: every check below i has passed. Assumes nothing.
 use native.Mathlib.Omega.{arith}
 use mathlib.Core.Path.{◌∙◌}
-use Prim.Native.Nat.{◌-◌}
-use mathlib.Core.Bool.{not}
-use borrow.Author.Rules.{rules}
-use lib.ListN.{length}
-use lib.Ieee.Scale.{finite}
-use Rattle.definition.specs.Vector.{word}
-use Rattle.definition.specs.Problem.{when, refuse}
-use Rattle.problem.proofs.Laws.{Clear, clear_none, clear_more, clear_done, clear_refused}
+use Rattle.problem.proofs.Laws.{clear_none, clear_more, clear_refused}
 use Rattle.problem.proofs.check_start.Goals as goal
 
 pub loop-i-init : goal.loop-i-init

@@ -1,5 +1,4 @@
 -- `problem::in_force` meets its contract. Assumes nothing.
-use borrow.Author.Rules.{rules}
 use Rattle.float.proofs.Constants.{default_ftol_is, default_gtol_is}
 use Rattle.problem.proofs.in_force.Goals as goal
 

@@ -1,5 +1,4 @@
 -- `problem::validate` meets its contract. Assumes nothing.
-use borrow.Author.Rules.{rules}
 use Rattle.definition.specs.Problem.{validate as validate_of}
 use Rattle.problem.proofs.validate.Goals as goal
 

@@ -1,6 +1,5 @@
 -- `record::check` meets its contract. Assumes nothing.
-use Rattle.std.proofs.Common.{sym, ◌∙◌, subst, rules}
-use borrow.Author.Tests.{not-true, not-false}
+use Rattle.std.proofs.Common.{sym, ◌∙◌, subst}
 use Rattle.record.specs.Records.{Parsing}
 use Rattle.record.proofs.Reading.{frame_placed, unframed, sums_refused, form_refused}
 use Rattle.record.proofs.check.Goals as goal

@@ -1,8 +1,8 @@
 -- `record::check_rows` meets its contract. Assumes nothing.
-use Rattle.std.proofs.Common.{ap, ◌∙◌, arith, rules}
+use Rattle.std.proofs.Common.{ap, ◌∙◌}
 use Rattle.definition.specs.Problem.{validate}
 use Rattle.record.specs.Records.{setup_from}
-use Rattle.record.proofs.Floats.{laid_setup, setup_most}
+use Rattle.record.proofs.Floats.{laid_setup}
 use Rattle.record.proofs.check_rows.Goals as goal
 
 pub returns : goal.returns

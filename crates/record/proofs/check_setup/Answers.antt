@@ -1,5 +1,5 @@
 -- `record::check_setup` meets its contract. Assumes nothing.
-use Rattle.std.proofs.Common.{sym, ap, ◌∙◌, subst, arith, rules}
+use Rattle.std.proofs.Common.{sym, ap, ◌∙◌, subst, arith}
 use Rattle.problem.specs.Setups.{check_of}
 use Rattle.record.specs.Records.{Parsing}
 use Rattle.record.proofs.Reading.{formed_placed, formed_whole, rows_refused, area_refused, opens, pairs_most, needed}

@@ -1,6 +1,5 @@
 -- `record::floats_at` meets its contract: the first i floats are laid. Assumes nothing.
-use Rattle.std.proofs.Common.{◌-◌}
-use Rattle.record.proofs.Floats.{Filling, filling_none, laws}
+use Rattle.record.proofs.Floats.{filling_none, laws}
 use Rattle.record.proofs.floats_at.Goals as goal
 
 pub loop-i-init : goal.loop-i-init

@@ -1,6 +1,6 @@
 -- `record::floats_at` meets its contract: the first i floats are laid. Assumes nothing.
 use Rattle.std.proofs.Common.{◌-◌}
-use Rattle.record.proofs.Floats.{Filling, filling_none, laws}
+use Rattle.record.proofs.Floats.{Filling}
 use Rattle.record.proofs.floats_at.Given as goal
 
 abbrev pub invariant-loop-i : goal.invariant-loop-i

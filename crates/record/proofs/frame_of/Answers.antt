@@ -1,5 +1,5 @@
 -- `record::frame_of` meets its contract. Assumes nothing.
-use Rattle.std.proofs.Common.{◌-◌, length, arith, rules}
+use Rattle.std.proofs.Common.{◌-◌, length, arith}
 use Rattle.record.proofs.Reading.{framed_fits, count_fits, trailer_word, frame_same}
 use Rattle.record.proofs.frame_of.Goals as goal
 

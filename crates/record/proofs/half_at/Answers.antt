@@ -1,5 +1,5 @@
 -- `record::half_at` meets its contract. Assumes nothing.
-use Rattle.std.proofs.Common.{arith, rules}
+use Rattle.std.proofs.Common.{arith}
 use Rattle.record.proofs.Words.{half_number}
 use Rattle.record.proofs.half_at.Goals as goal
 

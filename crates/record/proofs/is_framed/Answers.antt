@@ -1,6 +1,6 @@
 -- `record::is_framed` meets its contract. Assumes nothing.
-use Rattle.std.proofs.Common.{◌-◌, length, arith, rules}
-use Rattle.record.proofs.Reading.{too_short, version_other, framed_by}
+use Rattle.std.proofs.Common.{◌-◌, length, arith}
+use Rattle.record.proofs.Reading.{version_other, framed_by}
 use Rattle.record.proofs.is_framed.Goals as goal
 
 pub returns-then-word_at-ne-VERSION : goal.returns-then-word_at-ne-VERSION

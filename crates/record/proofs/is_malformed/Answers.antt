@@ -1,5 +1,4 @@
 -- `record::is_malformed` meets its contract. Assumes nothing.
-use Rattle.std.proofs.Common.{rules}
 use Rattle.record.proofs.Reading.{setup_cut, spare_tells}
 use Rattle.record.proofs.is_malformed.Goals as goal
 

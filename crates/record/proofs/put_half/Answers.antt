@@ -1,5 +1,4 @@
 -- `record::put_half` meets its contract. Assumes nothing.
-use Rattle.std.proofs.Common.{arith, length-set, rules}
 use Rattle.definition.specs.Record.{bytes_of}
 use Rattle.record.proofs.Words.{four_put}
 use Rattle.record.proofs.put_half.Goals as goal

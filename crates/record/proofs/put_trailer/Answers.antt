@@ -1,5 +1,5 @@
 -- `record::put_trailer` meets its contract. Assumes nothing.
-use Rattle.std.proofs.Common.{◌*◌, ◌∙◌, rules}
+use Rattle.std.proofs.Common.{◌*◌, ◌∙◌}
 use Rattle.record.proofs.Saving.{trailer_put}
 use Rattle.record.proofs.put_trailer.Goals as goal
 

@@ -1,5 +1,5 @@
 -- `record::put_word` meets its contract. Assumes nothing.
-use Rattle.std.proofs.Common.{◌∙◌, rules}
+use Rattle.std.proofs.Common.{◌∙◌}
 use Rattle.record.proofs.Words.{word-put}
 use Rattle.record.proofs.put_word.Goals as goal
 

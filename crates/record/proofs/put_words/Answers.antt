@@ -1,7 +1,7 @@
 -- `record::put_words` meets its contract: the first i words are written, and summed. Assumes nothing.
-use Rattle.std.proofs.Common.{ℕ, ◌+◌, ◌-◌, length, sym, ap, ◌∙◌, arith, rules}
+use Rattle.std.proofs.Common.{ℕ, ◌+◌, length, sym, ap, ◌∙◌, arith}
 use Rattle.record.specs.Records.{saved_words}
-use Rattle.record.proofs.Saving.{Writing, writing_none, writing_more, writing_done, saved_size}
+use Rattle.record.proofs.Saving.{writing_none, writing_more, saved_size}
 use Rattle.record.proofs.put_words.Goals as goal
 
 pub loop-i-init : goal.loop-i-init

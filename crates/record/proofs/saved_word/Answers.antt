@@ -1,5 +1,5 @@
 -- `record::saved_word` meets its contract. Assumes nothing.
-use Rattle.std.proofs.Common.{◌∙◌, arith, rules}
+use Rattle.std.proofs.Common.{◌∙◌, arith}
 use Rattle.record.proofs.Saving.{saved_first, saved_second}
 use Rattle.record.proofs.saved_word.Goals as goal
 

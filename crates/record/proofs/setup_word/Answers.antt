@@ -1,6 +1,6 @@
 -- `record::setup_word` meets its contract. Assumes nothing.
-use Rattle.std.proofs.Common.{◌∙◌, arith, rules}
-use Rattle.record.proofs.Saving.{leading_at, start_at, bounds_room, bounds_at}
+use Rattle.std.proofs.Common.{◌∙◌}
+use Rattle.record.proofs.Saving.{leading_at, start_at, bounds_at}
 use Rattle.record.proofs.setup_word.Goals as goal
 
 pub returns-then-i-lt7 : goal.returns-then-i-lt7

@@ -1,5 +1,5 @@
 -- `record::sums_agree` meets its contract. Assumes nothing.
-use Rattle.std.proofs.Common.{ap, rules}
+use Rattle.std.proofs.Common.{ap}
 use Rattle.definition.specs.Record.{Sums}
 use Rattle.record.proofs.Reading.{plain_differs, running_tells}
 use Rattle.record.proofs.sums_agree.Goals as goal

@@ -1,5 +1,5 @@
 -- `record::vectors` meets its contract. Assumes nothing.
-use Rattle.std.proofs.Common.{ap, ◌∙◌, rules}
+use Rattle.std.proofs.Common.{ap, ◌∙◌}
 use Rattle.record.specs.Records.{floats_of}
 use Rattle.record.proofs.Floats.{words_behind}
 use Rattle.record.proofs.vectors.Goals as goal

@@ -1,5 +1,5 @@
 -- `record::word_at` meets its contract. Assumes nothing.
-use Rattle.std.proofs.Common.{ℕ, ◌+◌, ◌*◌, ◌∙◌, ap₂, rules}
+use Rattle.std.proofs.Common.{ℕ, ◌+◌, ◌*◌, ◌∙◌, ap₂}
 use Rattle.record.proofs.Words.{word_number}
 use Rattle.record.proofs.word_at.Goals as goal
 

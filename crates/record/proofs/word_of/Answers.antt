@@ -1,5 +1,5 @@
 -- `record::word_of` meets its contract. Assumes nothing.
-use Rattle.std.proofs.Common.{◌∙◌, rules}
+use Rattle.std.proofs.Common.{◌∙◌}
 use Rattle.record.proofs.Reading.{word_from, word_past}
 use Rattle.record.proofs.word_of.Goals as goal
 

@@ -1,5 +1,5 @@
 -- `record::write` meets its contract. Assumes nothing.
-use Rattle.std.proofs.Common.{ℕ, ◌+◌, length, sym, ap, ◌∙◌, arith, rules}
+use Rattle.std.proofs.Common.{ℕ, ◌+◌, length, sym, ap, ◌∙◌, arith}
 use Rattle.record.specs.Records.{saved_words}
 use Rattle.record.proofs.Saving.{record_put, saved_size}
 use Rattle.record.proofs.write.Goals as goal

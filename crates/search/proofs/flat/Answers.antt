@@ -1,5 +1,4 @@
 -- `search::flat` meets its contract. Assumes nothing.
-use borrow.Author.Rules.{rules}
 use Rattle.float.proofs.Constants.{constants}
 use Rattle.search.proofs.flat.Goals as goal
 

@@ -1,5 +1,4 @@
 -- `search::following` meets its contract. Assumes nothing.
-use borrow.Author.Rules.{rules}
 use Rattle.float.proofs.Constants.{two_is, half_is}
 use Rattle.search.proofs.following.Goals as goal
 

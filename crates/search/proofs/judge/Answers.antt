@@ -1,5 +1,4 @@
 -- `search::judge` meets its contract: the decrease test that is made once is the one in both parts of the definition. Assumes nothing.
-use borrow.Author.Rules.{rules}
 use mathlib.Core.Path.{sym, ◌∙◌}
 use Rattle.definition.specs.Search.{accepts, after_trial}
 use Rattle.search.proofs.judge.Goals as goal

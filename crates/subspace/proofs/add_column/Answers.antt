@@ -1,9 +1,6 @@
 -- `subspace::add_column` meets its contract: the first i words have their term. Assumes nothing.
-use Prim.Native.Nat.{◌-◌}
 use native.Mathlib.Omega.{arith}
-use Rattle.definition.specs.Number.{plus, times}
-use Rattle.area.specs.Area.{vector_step}
-use Rattle.area.proofs.Laws.{Row, row_none, laws}
+use Rattle.area.proofs.Laws.{row_none, laws}
 use Rattle.subspace.proofs.add_column.Goals as goal
 
 pub loop-i-init : goal.loop-i-init

@@ -1,8 +1,6 @@
 -- `subspace::add_four` meets its contract: the first j entries are done. Assumes nothing.
-use Prim.Native.Nat.{◌-◌}
-use Rattle.definition.specs.Solve.{entry, put}
-use Rattle.area.proofs.Laws.{Looped, looped_none, laws}
-use Rattle.subspace.specs.State.{row_each, four_to}
+use Rattle.area.proofs.Laws.{looped_none, laws}
+use Rattle.subspace.specs.State.{row_each}
 use Rattle.subspace.proofs.add_four.Goals as goal
 
 pub loop-j-init : goal.loop-j-init

@@ -1,8 +1,8 @@
 -- `subspace::add_four` meets its contract: the first j entries are done. Assumes nothing.
 use Prim.Native.Nat.{◌-◌}
 use Rattle.definition.specs.Solve.{entry, put}
-use Rattle.area.proofs.Laws.{Looped, looped_none, laws}
-use Rattle.subspace.specs.State.{row_each, four_to}
+use Rattle.area.proofs.Laws.{Looped}
+use Rattle.subspace.specs.State.{four_to}
 use Rattle.subspace.proofs.add_four.Given as goal
 
 abbrev pub invariant-loop-j : goal.invariant-loop-j

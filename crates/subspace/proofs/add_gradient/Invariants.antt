@@ -1,9 +1,8 @@
 -- `subspace::add_gradient` meets its contract: the first i words are made. Assumes nothing.
 use Prim.Native.Nat.{◌-◌}
-use native.Mathlib.Omega.{arith}
 use Rattle.definition.specs.Number.{plus}
 use Rattle.area.specs.Area.{vector_product_d, vector_product_z, vector_g}
-use Rattle.area.proofs.Laws.{Row, row_none, laws}
+use Rattle.area.proofs.Laws.{Row}
 use Rattle.subspace.proofs.add_gradient.Given as goal
 
 abbrev pub invariant-loop-i : goal.invariant-loop-i

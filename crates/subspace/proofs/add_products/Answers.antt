@@ -1,8 +1,6 @@
 -- `subspace::add_products` meets its contract: the first j entries are done. Assumes nothing.
-use Prim.Native.Nat.{◌-◌}
-use Rattle.definition.specs.Solve.{entry, put}
-use Rattle.area.proofs.Laws.{Looped, looped_none, laws}
-use Rattle.subspace.specs.State.{row_each, product_to}
+use Rattle.area.proofs.Laws.{looped_none, laws}
+use Rattle.subspace.specs.State.{row_each}
 use Rattle.subspace.proofs.add_products.Goals as goal
 
 pub loop-j-init : goal.loop-j-init

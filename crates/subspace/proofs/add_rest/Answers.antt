@@ -1,8 +1,5 @@
 -- `subspace::add_rest` meets its contract: the first t rows are added. Assumes nothing.
-use Prim.Native.Nat.{◌-◌}
-use Rattle.definition.specs.Solve.{row}
-use Rattle.area.proofs.Laws.{Looped, looped_none, laws}
-use Rattle.subspace.specs.State.{each, product_to}
+use Rattle.area.proofs.Laws.{looped_none, laws}
 use Rattle.subspace.proofs.add_rest.Goals as goal
 
 pub loop-k-init : goal.loop-k-init

@@ -1,7 +1,7 @@
 -- `subspace::add_rest` meets its contract: the first t rows are added. Assumes nothing.
 use Prim.Native.Nat.{◌-◌}
 use Rattle.definition.specs.Solve.{row}
-use Rattle.area.proofs.Laws.{Looped, looped_none, laws}
+use Rattle.area.proofs.Laws.{Looped}
 use Rattle.subspace.specs.State.{each, product_to}
 use Rattle.subspace.proofs.add_rest.Given as goal
 

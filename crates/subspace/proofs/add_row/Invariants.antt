@@ -1,7 +1,7 @@
 -- `subspace::add_row` meets its contract: the first i rows are done. Assumes nothing.
 use Prim.Native.Nat.{◌-◌}
-use Rattle.area.proofs.Laws.{Looped, looped_none, laws}
-use Rattle.subspace.specs.State.{row_each, each, product_to}
+use Rattle.area.proofs.Laws.{Looped}
+use Rattle.subspace.specs.State.{row_each, product_to}
 use Rattle.subspace.proofs.add_row.Given as goal
 
 abbrev pub invariant-loop-i : goal.invariant-loop-i

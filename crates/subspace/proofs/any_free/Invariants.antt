@@ -1,12 +1,8 @@
 -- `subspace::any_free` meets its contract: none of the first i coordinates is free. Assumes nothing.
-use mathlib.Core.Path.{sym, ◌∙◌}
 use mathlib.Core.Bool.{false, ◌||◌}
 use Prim.Native.Nat.{◌-◌}
-use native.Mathlib.Omega.{arith}
-use Rattle.area.specs.Area.{fold_rows}
-use Rattle.area.proofs.Laws.{Folded, fold_none, fold_more, fold_done, laws}
+use Rattle.area.proofs.Laws.{Folded}
 use Rattle.subspace.specs.State.{free_in}
-use Rattle.subspace.proofs.Laws.{any_found}
 use Rattle.subspace.proofs.any_free.Given as goal
 
 abbrev pub invariant-loop-i : goal.invariant-loop-i

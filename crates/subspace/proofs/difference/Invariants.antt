@@ -1,12 +1,10 @@
 -- `subspace::difference` meets its contract: the first i words are those of the difference. Assumes nothing.
 use Prim.Native.Nat.{◌-◌}
-use native.Mathlib.Omega.{arith}
 use lib.ListN.{length}
 use Rattle.definition.specs.Number.{minus}
 use Rattle.definition.specs.Vector.{word}
 use Rattle.definition.specs.Problem.{most_coordinates}
-use Rattle.area.proofs.Laws.{laws}
-use Rattle.subspace.proofs.Ends.{Filled, filled_none, filled_more, filled_done}
+use Rattle.subspace.proofs.Ends.{Filled}
 use Rattle.subspace.proofs.difference.Given as goal
 
 abbrev pub invariant-loop-i : goal.invariant-loop-i

@@ -1,9 +1,7 @@
 -- `subspace::direction` meets its contract: the end that is chosen has n words, and is handed on. Assumes nothing.
-use native.Mathlib.Omega.{arith}
-use borrow.Author.Rules.{rules}
 use lib.Ieee as Ieee
 use Rattle.definition.specs.Number.{zero64}
-use Rattle.subspace.proofs.Ends.{end_long, point_long, direction_is}
+use Rattle.subspace.proofs.Ends.{direction_is}
 use Rattle.subspace.proofs.direction.Goals as goal
 
 pub returns : goal.returns

@@ -1,11 +1,7 @@
 -- `subspace::free_sum` meets its contract: the sum is that of the first i coordinates. Assumes nothing.
 use Prim.Native.Nat.{◌-◌}
-use native.Mathlib.Omega.{arith}
 use Rattle.definition.specs.Number.{neg_zero}
-use Rattle.definition.specs.Geometry.{free_sum}
-use Rattle.float.proofs.Constants.{neg_zero_is}
-use Rattle.area.specs.Area.{fold_rows}
-use Rattle.area.proofs.Laws.{Folded, fold_none, fold_done, laws}
+use Rattle.area.proofs.Laws.{Folded}
 use Rattle.subspace.specs.State.{free_term}
 use Rattle.subspace.proofs.free_sum.Given as goal
 

@@ -1,11 +1,8 @@
 -- `subspace::gather` meets its contract: the first j words are gathered. Assumes nothing.
 use mathlib.Core.Path.{ap, ◌∙◌}
-use Prim.Native.Nat.{◌-◌, ◌*◌}
 use native.Mathlib.Omega.{arith}
-use Rattle.definition.specs.Number.{zero64}
 use Rattle.area.specs.Area.{words_at}
-use Rattle.compact.specs.State.{column_slot}
-use Rattle.compact.proofs.Laws.{Padding, padding_none, padding_more, vector_room, laws}
+use Rattle.compact.proofs.Laws.{padding_none, padding_more, vector_room}
 use Rattle.subspace.proofs.gather.Goals as goal
 
 pub loop-j-init : goal.loop-j-init

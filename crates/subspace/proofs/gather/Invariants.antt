@@ -1,11 +1,9 @@
 -- `subspace::gather` meets its contract: the first j words are gathered. Assumes nothing.
-use mathlib.Core.Path.{ap, ◌∙◌}
 use Prim.Native.Nat.{◌-◌, ◌*◌}
-use native.Mathlib.Omega.{arith}
 use Rattle.definition.specs.Number.{zero64}
 use Rattle.area.specs.Area.{words_at}
 use Rattle.compact.specs.State.{column_slot}
-use Rattle.compact.proofs.Laws.{Padding, padding_none, padding_more, vector_room, laws}
+use Rattle.compact.proofs.Laws.{Padding}
 use Rattle.subspace.proofs.gather.Given as goal
 
 abbrev pub invariant-loop-j : goal.invariant-loop-j

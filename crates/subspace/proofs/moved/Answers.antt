@@ -1,9 +1,6 @@
 -- `subspace::moved` meets its contract: the first i words are moved. Assumes nothing.
-use Prim.Native.Nat.{◌-◌}
 use native.Mathlib.Omega.{arith}
-use Rattle.area.specs.Area.{vector_target}
-use Rattle.area.proofs.Laws.{Row, row_none, row_done, laws}
-use Rattle.subspace.specs.State.{moved_in}
+use Rattle.area.proofs.Laws.{row_none, row_done, laws}
 use Rattle.subspace.proofs.Makes.{moves}
 use Rattle.subspace.proofs.moved.Goals as goal
 

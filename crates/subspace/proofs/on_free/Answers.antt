@@ -2,7 +2,7 @@
 use mathlib.Core.Bool.{not}
 use mathlib.Core.Path.{ap}
 use borrow.Author.Rules.{rules}
-use Rattle.subspace.proofs.Makes.{model_kept, without_residual, without_steps, targets}
+use Rattle.subspace.proofs.Makes.{model_kept, without_steps, targets}
 use Rattle.subspace.proofs.on_free.Goals as goal
 
 pub steps-made-requires : goal.steps-made-requires

@@ -1,9 +1,6 @@
 -- `subspace::plain_steps` meets its contract: the first i steps are made. Assumes nothing.
-use Prim.Native.Nat.{◌-◌}
 use native.Mathlib.Omega.{arith}
-use Rattle.area.specs.Area.{vector_step}
-use Rattle.area.proofs.Laws.{Row, row_none, laws}
-use Rattle.subspace.specs.State.{plain_in}
+use Rattle.area.proofs.Laws.{row_none, laws}
 use Rattle.subspace.proofs.plain_steps.Goals as goal
 
 pub loop-i-init : goal.loop-i-init

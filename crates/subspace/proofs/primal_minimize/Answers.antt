@@ -1,5 +1,4 @@
 -- `subspace::primal_minimize` meets its contract: where no coordinate is free the target is the Cauchy point. Assumes nothing.
-use borrow.Author.Rules.{rules}
 use Rattle.subspace.proofs.Makes.{minimum_free, minimum_fixed}
 use Rattle.subspace.proofs.primal_minimize.Goals as goal
 

@@ -1,9 +1,8 @@
 -- `subspace::push` meets its contract, by its tests. Assumes nothing.
 use mathlib.Core.Bool.{not}
 use mathlib.Core.Path.{ap}
-use borrow.Author.Rules.{rules}
 use Rattle.area.specs.Area.{words_at}
-use Rattle.subspace.proofs.Grid.{push_none, push_more, push_four}
+use Rattle.subspace.proofs.Grid.{push_more, push_four}
 use Rattle.subspace.proofs.push.Goals as goal
 
 pub returns-then-count-lt3 : goal.returns-then-count-lt3

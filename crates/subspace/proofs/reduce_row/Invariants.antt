@@ -1,8 +1,8 @@
 -- `subspace::reduce_row` meets its contract: the first j entries are done. Assumes nothing.
 use Prim.Native.Nat.{◌-◌}
 use Rattle.definition.specs.Solve.{entry, put}
-use Rattle.area.proofs.Laws.{Looped, looped_none, laws}
-use Rattle.subspace.specs.State.{row_each, reduced_by}
+use Rattle.area.proofs.Laws.{Looped}
+use Rattle.subspace.specs.State.{reduced_by}
 use Rattle.subspace.proofs.reduce_row.Given as goal
 
 abbrev pub invariant-loop-j : goal.invariant-loop-j

@@ -1,10 +1,7 @@
 -- `subspace::reduced` meets its contract: the first i rows are made, from the sums. Assumes nothing.
 use Prim.Native.Nat.{◌-◌}
-use native.Mathlib.Omega.{arith}
-use Rattle.area.proofs.Laws.{Looped, looped_none, looped_done}
-use Rattle.compact.proofs.Laws.{laws}
+use Rattle.area.proofs.Laws.{Looped}
 use Rattle.subspace.specs.State.{row_each, reduced_by}
-use Rattle.subspace.proofs.Grid.{reduced_are}
 use Rattle.subspace.proofs.reduced.Given as goal
 
 abbrev pub invariant-loop-i : goal.invariant-loop-i

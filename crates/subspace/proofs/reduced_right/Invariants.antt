@@ -1,15 +1,12 @@
 -- `subspace::reduced_right` meets its contract: the first i products are made, from the columns as they stand. Assumes nothing.
-use mathlib.Core.Path.{◌∙◌}
 use Prim.Native.Nat.{◌-◌, ◌*◌}
-use native.Mathlib.Omega.{arith}
 use Rattle.definition.specs.Number.{zero64, times}
 use Rattle.definition.specs.Vector.{word}
 use Rattle.definition.specs.Compact.{column_word}
 use Rattle.definition.specs.Geometry.{free_sum}
 use Rattle.area.specs.Area.{view, bounds_of, vector_cauchy, vector_product_d}
 use Rattle.compact.specs.State.{compact_of}
-use Rattle.compact.proofs.Laws.{Padding, padding_none, padding_more, padding_done, pairs_count, vector_room, laws}
-use Rattle.subspace.proofs.Laws.{right_is}
+use Rattle.compact.proofs.Laws.{Padding}
 use Rattle.subspace.proofs.reduced_right.Given as goal
 
 abbrev pub invariant-loop-i : goal.invariant-loop-i

@@ -1,5 +1,4 @@
 -- `subspace::set_direction` meets its contract: the array that is stored is the direction to the end that the slope chooses. Assumes nothing.
-use Rattle.area.proofs.Laws.{laws}
 use Rattle.subspace.proofs.Ends.{directs}
 use Rattle.subspace.proofs.set_direction.Goals as goal
 

@@ -1,11 +1,8 @@
 -- `subspace::start` meets its contract: the first i rows are made. Assumes nothing.
 use Prim.Native.Nat.{◌-◌}
-use mathlib.Core.Path.{ap}
-use native.Mathlib.Omega.{arith}
-use lib.ListN.{replicate}
 use Rattle.definition.specs.Number.{zero64, neg_zero}
 use Rattle.definition.specs.Compact.{padded, zero_row}
-use Rattle.compact.proofs.Laws.{Padding, padding_none, laws}
+use Rattle.compact.proofs.Laws.{Padding}
 use Rattle.subspace.proofs.start.Given as goal
 
 abbrev pub invariant-loop-i : goal.invariant-loop-i

@@ -1,8 +1,6 @@
 -- `subspace::start_row` meets its contract: the first j places are made. Assumes nothing.
-use Prim.Native.Nat.{◌-◌}
-use Rattle.definition.specs.Number.{zero64, neg_zero}
 use Rattle.float.proofs.Constants.{neg_zero_is}
-use Rattle.compact.proofs.Laws.{Padding, padding_none, padding_more, laws}
+use Rattle.compact.proofs.Laws.{padding_none, padding_more}
 use native.Mathlib.Omega.{arith}
 use Rattle.subspace.proofs.start_row.Goals as goal
 

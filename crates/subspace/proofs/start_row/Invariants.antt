@@ -1,9 +1,7 @@
 -- `subspace::start_row` meets its contract: the first j places are made. Assumes nothing.
 use Prim.Native.Nat.{◌-◌}
 use Rattle.definition.specs.Number.{zero64, neg_zero}
-use Rattle.float.proofs.Constants.{neg_zero_is}
-use Rattle.compact.proofs.Laws.{Padding, padding_none, padding_more, laws}
-use native.Mathlib.Omega.{arith}
+use Rattle.compact.proofs.Laws.{Padding}
 use Rattle.subspace.proofs.start_row.Given as goal
 
 abbrev pub invariant-loop-j : goal.invariant-loop-j

@@ -1,7 +1,4 @@
 -- `subspace::steps` meets its contract: without pairs, without weights, and with them. Assumes nothing.
-use mathlib.Core.Bool.{not}
-use mathlib.Core.Path.{ap}
-use borrow.Author.Rules.{rules}
 use Rattle.subspace.proofs.Makes.{plain, by_weights, no_steps, with_steps}
 use Rattle.subspace.proofs.steps.Goals as goal
 

@@ -1,13 +1,9 @@
 -- `subspace::sums` meets its contract: with the rows that are held the sums are those of the first k coordinates. Assumes nothing.
 use mathlib.Core.Path.{refl, ◌∙◌}
-use Prim.Native.Nat.{◌-◌, ◌*◌}
 use native.Mathlib.Omega.{arith}
-use Rattle.definition.specs.Number.{neg_zero}
 use Rattle.definition.specs.Vector.{fold_to}
 use Rattle.area.specs.Area.{view}
-use Rattle.area.proofs.Laws.{Folded, fold_none, fold_more, fold_done}
-use Rattle.compact.proofs.Laws.{laws}
-use Rattle.subspace.specs.State.{grid, add_rows, Held, add_free}
+use Rattle.area.proofs.Laws.{fold_none, fold_more, fold_done}
 use Rattle.subspace.proofs.Grid.{held_none, sums_are}
 use Rattle.subspace.proofs.sums.Goals as goal
 

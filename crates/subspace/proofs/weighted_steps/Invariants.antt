@@ -1,8 +1,7 @@
 -- `subspace::weighted_steps` meets its contract: the first i steps are made. Assumes nothing.
 use Prim.Native.Nat.{◌-◌}
-use native.Mathlib.Omega.{arith}
 use Rattle.area.specs.Area.{vector_step}
-use Rattle.area.proofs.Laws.{Row, row_none, laws}
+use Rattle.area.proofs.Laws.{Row}
 use Rattle.subspace.specs.State.{weighted_in}
 use Rattle.subspace.proofs.weighted_steps.Given as goal
 

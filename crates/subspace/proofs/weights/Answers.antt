@@ -1,7 +1,6 @@
 -- `subspace::weights` meets its contract. Assumes nothing.
 use mathlib.Core.Path.{sym, ◌∙◌}
 use Prim.Native.Nat.{◌*◌}
-use borrow.Author.Rules.{rules}
 use Rattle.definition.specs.Solve.{solve}
 use Rattle.area.specs.Area.{view}
 use Rattle.compact.proofs.Laws.{pairs_count}

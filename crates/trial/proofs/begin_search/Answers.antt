@@ -1,7 +1,5 @@
 -- `trial::begin_search` meets its contract. Assumes nothing.
 use mathlib.Core.Path.{sym, ap, ◌∙◌}
-use borrow.Author.Rules.{rules}
-use borrow.Author.Tests.{not-true, not-false}
 use lib.Ieee.{of_bits}
 use Rattle.definition.specs.Search.{Limit, with_limit, or_failed}
 use Rattle.trial.proofs.Laws.{begin_unsloped, begin_uphill, begin_downhill}

@@ -1,5 +1,4 @@
 -- `trial::decrease_small` meets its contract. Assumes nothing.
-use borrow.Author.Rules.{rules}
 use Rattle.definition.specs.Driver.{decrease_small}
 use Rattle.float.proofs.Constants.{one_is}
 use Rattle.trial.proofs.decrease_small.Goals as goal

@@ -1,6 +1,5 @@
 -- `trial::gradient_small` meets its contract. Assumes nothing.
 use Rattle.definition.specs.Driver.{gradient_small}
-use Rattle.fit.proofs.Laws.{first_room}
 use Rattle.trial.proofs.gradient_small.Goals as goal
 
 pub returns : goal.returns

@@ -1,15 +1,9 @@
 -- `trial::limit_of` meets its contract; in its loop the limit is that of the first i coordinates. Assumes nothing.
-use Prim.Native.Nat.{◌-◌}
-use mathlib.Core.Bool.{false}
 use native.Mathlib.Omega.{arith}
-use Rattle.definition.specs.Number.{step_limit}
 use Rattle.definition.specs.Search as S
 use Rattle.float.proofs.Constants.{step_limit_is}
 use Rattle.area.specs.Area.{fold_rows}
-use Rattle.area.proofs.Laws.{Folded, fold_none, fold_more, fold_done, laws}
-use Rattle.search.specs.State.{limit_of}
-use Rattle.trial.specs.Words.{distance_in}
-use Rattle.trial.proofs.limit_of.Invariants.{start}
+use Rattle.area.proofs.Laws.{fold_none, fold_more, fold_done}
 use Rattle.trial.proofs.limit_of.Goals as goal
 
 pub loop-i-init : goal.loop-i-init

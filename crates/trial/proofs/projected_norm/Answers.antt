@@ -1,12 +1,9 @@
 -- `trial::projected_norm` meets its contract; in its loop the largest is that of the first i coordinates. Assumes nothing.
-use Prim.Native.Nat.{◌-◌}
 use native.Mathlib.Omega.{arith}
-use Rattle.definition.specs.Number.{max, zero64}
 use Rattle.definition.specs.Driver.{projected_norm}
 use Rattle.float.proofs.Constants.{zero_is}
 use Rattle.area.specs.Area.{fold_rows}
-use Rattle.area.proofs.Laws.{Folded, fold_none, fold_done, laws}
-use Rattle.trial.specs.Words.{projected_in}
+use Rattle.area.proofs.Laws.{fold_none, fold_done, laws}
 use Rattle.trial.proofs.projected_norm.Goals as goal
 
 pub loop-i-init : goal.loop-i-init

@@ -1,11 +1,7 @@
 -- `trial::projected_norm` meets its contract; in its loop the largest is that of the first i coordinates. Assumes nothing.
 use Prim.Native.Nat.{◌-◌}
-use native.Mathlib.Omega.{arith}
 use Rattle.definition.specs.Number.{max, zero64}
-use Rattle.definition.specs.Driver.{projected_norm}
-use Rattle.float.proofs.Constants.{zero_is}
-use Rattle.area.specs.Area.{fold_rows}
-use Rattle.area.proofs.Laws.{Folded, fold_none, fold_done, laws}
+use Rattle.area.proofs.Laws.{Folded}
 use Rattle.trial.specs.Words.{projected_in}
 use Rattle.trial.proofs.projected_norm.Given as goal
 

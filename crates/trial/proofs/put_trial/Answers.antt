@@ -1,10 +1,8 @@
 -- `trial::put_trial` meets its contract; in its loop the first i words of the trial are made. Assumes nothing.
-use Prim.Native.Nat.{◌-◌}
 use native.Mathlib.Omega.{arith}
 use Rattle.definition.specs.Search.{trial_point}
-use Rattle.area.specs.Area.{rowwise, vector_trial}
-use Rattle.area.proofs.Laws.{Row, row_none, row_done, laws}
-use Rattle.trial.specs.Words.{trial_in}
+use Rattle.area.specs.Area.{rowwise}
+use Rattle.area.proofs.Laws.{row_none, row_done, laws}
 use Rattle.trial.proofs.put_trial.Goals as goal
 
 pub returns : goal.returns

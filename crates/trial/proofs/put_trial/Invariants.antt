@@ -1,9 +1,7 @@
 -- `trial::put_trial` meets its contract; in its loop the first i words of the trial are made. Assumes nothing.
 use Prim.Native.Nat.{◌-◌}
-use native.Mathlib.Omega.{arith}
-use Rattle.definition.specs.Search.{trial_point}
-use Rattle.area.specs.Area.{rowwise, vector_trial}
-use Rattle.area.proofs.Laws.{Row, row_none, row_done, laws}
+use Rattle.area.specs.Area.{vector_trial}
+use Rattle.area.proofs.Laws.{Row}
 use Rattle.trial.specs.Words.{trial_in}
 use Rattle.trial.proofs.put_trial.Given as goal
 

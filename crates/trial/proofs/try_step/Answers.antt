@@ -2,11 +2,10 @@
 use Prim.Native.Nat.{◌<◌}
 use mathlib.Core.Path.{refl}
 use native.Mathlib.Omega.{arith}
-use borrow.Author.Rules.{rules}
 use Rattle.definition.specs.Driver.{try_step}
 use Rattle.area.specs.Area.{first_pair, vector_trial}
 use Rattle.area.proofs.Laws.{saved_refl, saved_upd}
-use Rattle.fit.proofs.Laws.{stepped, pairs_kept, first_room}
+use Rattle.fit.proofs.Laws.{stepped, pairs_kept}
 use Rattle.trial.proofs.try_step.Goals as goal
 
 pub returns : goal.returns
