@@ -4,8 +4,6 @@ use mathlib.Core.Bool.{true}
 use mathlib.Core.List.{List, [], ◌∷◌, map}
 use Prim.Native.Nat.{ℕ}
 use native.Mathlib.Omega.{arith}
-use denote.Enum.Declared.{tag_of}
-use types.Run.{OneOf, miss}
 use lib.Ieee.{Float}
 use Rattle.definition.specs.Number.{to_float}
 use Rattle.definition.specs.Problem.{Terms}
@@ -21,7 +19,6 @@ use Rattle.fit.proofs.Laws.{put, steps_as, steps_at_lem}
 use Rattle.driver.specs.Replies.{replied, is_due, advanced}
 use Rattle.driver.specs.declared.Reply.{Reply}
 use Rattle.driver.specs.declared.Reply.TheVariants as R
-use Rattle.driver.specs.contracts.Reply.{the_type}
 use Rattle.driver.proofs.Steps.{gradient_answered}
 
 -- ---- the terms stay
@@ -90,14 +87,14 @@ gradient_steps r {t} {f} {a} {b} {d} ws is due e h =
     (λ k s. supplied_steps ws k e s) due h
 
 -- to any other reply
-other_answer : (r : Reply) (m : M.Machine) (gs : List ℕ) → OneOf (0 ∷ 2 ∷ 3 ∷ 4 ∷ 5 ∷ []) (tag_of the_type r) → advanced r m ≡ D.answer m (replied r gs)
+other_answer : (r : Reply) (m : M.Machine) (gs : List ℕ) → (r ≡ R.Gradient → ⊥) → advanced r m ≡ D.answer m (replied r gs)
 other_answer (R.Value v) m gs h = refl
-other_answer R.Gradient m gs h = absurd (miss (0 ∷ 2 ∷ 3 ∷ 4 ∷ 5 ∷ []) 1 tt h)
+other_answer R.Gradient m gs h = absurd (h refl)
 other_answer R.NotSupplied m gs h = refl
 other_answer R.GoOn m gs h = refl
 other_answer R.Stop m gs h = refl
 other_answer R.Failure m gs h = refl
 
-pub other_steps : (r : Reply) {t f : Fit} {a b : List Float} (gs : List ℕ) → OneOf (0 ∷ 2 ∷ 3 ∷ 4 ∷ 5 ∷ []) (tag_of the_type r) → Steps (advanced r) t a f b
+pub other_steps : (r : Reply) {t f : Fit} {a b : List Float} (gs : List ℕ) → (r ≡ R.Gradient → ⊥) → Steps (advanced r) t a f b
     → Steps (λ (m : M.Machine). D.answer m (replied r gs)) t a f b
 other_steps r {t} {a = a} gs o h = steps_as h (other_answer r (machine_of t a) gs o)

@@ -6,8 +6,6 @@ use mathlib.Core.Bool.{Bool, true, false, cond, not}
 use mathlib.Core.List.{List, [], ◌∷◌, map}
 use mathlib.Core.Option.{none}
 use borrow.Author.Tests.{eqb-true, eq-eqb}
-use denote.Enum.Declared.{tag_of}
-use types.Run.{OneOf, miss}
 use lib.ListN.{length}
 use lib.Ieee.{Float}
 use Rattle.definition.specs.Number.{to_float}
@@ -21,8 +19,8 @@ use Rattle.problem.specs.Setups.{check_of}
 use Rattle.problem.specs.declared.Checked.{Checked}
 use Rattle.fit.specs.declared.Fit.{Fit}
 use Rattle.fit.specs.declared.Phase.{Phase}
+use Rattle.fit.specs.declared.Place.{Place}
 use Rattle.fit.specs.declared.Phase.TheVariants.{Value, Gradient, Probe, Notice, Ended}
-use Rattle.fit.specs.contracts.Phase.{the_type}
 use Rattle.fit.specs.State.{machine, machine_of, phase_of, Turns, Steps}
 use Rattle.fit.proofs.Laws.{kept_refl, still, steps_as}
 use Rattle.driver.specs.declared.Reply.{Reply}
@@ -57,14 +55,14 @@ pub probe_as : (w : M.Place) (i : ℕ) (d : M.Side) (m : M.Machine) {x y : Float
 probe_as w i d m e = rw e
 
 -- no gradient is asked
-pub no_gradient : (t : Fit) (a : List Float) (s : Bool) → OneOf (0 ∷ 2 ∷ 3 ∷ 4 ∷ []) (tag_of the_type t.phase)
+pub no_gradient : (t : Fit) (a : List Float) (s : Bool) → ((w : Place) → t.phase ≡ Gradient w → ⊥)
     → Steps (advanced (cond s R.Gradient R.NotSupplied)) t a t a
 no_gradient t a s o = go s t.phase refl o
   where
-    go : (s : Bool) (p : Phase) → t.phase ≡ p → OneOf (0 ∷ 2 ∷ 3 ∷ 4 ∷ []) (tag_of the_type p) → Steps (advanced (cond s R.Gradient R.NotSupplied)) t a t a
+    go : (s : Bool) (p : Phase) → t.phase ≡ p → ((w : Place) → p ≡ Gradient w → ⊥) → Steps (advanced (cond s R.Gradient R.NotSupplied)) t a t a
     go true (Value w) e o = in_phase_lem R.Gradient (Value w) at_rest e (λ m. refl)
     go false (Value w) e o = in_phase_lem R.NotSupplied (Value w) at_rest e (λ m. refl)
-    go s (Gradient w) e o = absurd (miss (0 ∷ 2 ∷ 3 ∷ 4 ∷ []) 1 tt o)
+    go s (Gradient w) e o = absurd (o w refl)
     go true (Probe w i d) e o = in_phase_lem R.Gradient (Probe w i d) at_rest e (λ m. refl)
     go false (Probe w i d) e o = in_phase_lem R.NotSupplied (Probe w i d) at_rest e (λ m. refl)
     go true Notice e o = in_phase_lem R.Gradient Notice at_rest e (λ m. refl)
@@ -73,17 +71,17 @@ no_gradient t a s o = go s t.phase refl o
     go false (Ended z) e o = in_phase_lem R.NotSupplied (Ended z) at_rest e (λ m. refl)
 
 -- no notice is given
-pub no_notice : (t : Fit) (a : List Float) (s : Bool) → OneOf (0 ∷ 1 ∷ 2 ∷ 4 ∷ []) (tag_of the_type t.phase) → Steps (advanced (cond s R.Stop R.GoOn)) t a t a
+pub no_notice : (t : Fit) (a : List Float) (s : Bool) → (t.phase ≡ Notice → ⊥) → Steps (advanced (cond s R.Stop R.GoOn)) t a t a
 no_notice t a s o = go s t.phase refl o
   where
-    go : (s : Bool) (p : Phase) → t.phase ≡ p → OneOf (0 ∷ 1 ∷ 2 ∷ 4 ∷ []) (tag_of the_type p) → Steps (advanced (cond s R.Stop R.GoOn)) t a t a
+    go : (s : Bool) (p : Phase) → t.phase ≡ p → (p ≡ Notice → ⊥) → Steps (advanced (cond s R.Stop R.GoOn)) t a t a
     go true (Value w) e o = in_phase_lem R.Stop (Value w) at_rest e (λ m. refl)
     go false (Value w) e o = in_phase_lem R.GoOn (Value w) at_rest e (λ m. refl)
     go true (Gradient w) e o = in_phase_lem R.Stop (Gradient w) at_rest e (λ m. refl)
     go false (Gradient w) e o = in_phase_lem R.GoOn (Gradient w) at_rest e (λ m. refl)
     go true (Probe w i d) e o = in_phase_lem R.Stop (Probe w i d) at_rest e (λ m. refl)
     go false (Probe w i d) e o = in_phase_lem R.GoOn (Probe w i d) at_rest e (λ m. refl)
-    go s Notice e o = absurd (miss (0 ∷ 1 ∷ 2 ∷ 4 ∷ []) 3 tt o)
+    go s Notice e o = absurd (o refl)
     go true (Ended z) e o = in_phase_lem R.Stop (Ended z) at_rest e (λ m. refl)
     go false (Ended z) e o = in_phase_lem R.GoOn (Ended z) at_rest e (λ m. refl)
 

@@ -5,8 +5,6 @@ use mathlib.Core.Path.{◌≡◌, refl, sym, ap, ◌∙◌, subst}
 use mathlib.Core.Bool.{Bool, true, false, cond}
 use mathlib.Core.List.{List, [], ◌∷◌, map}
 use mathlib.Core.Option.{Option, none, some}
-use denote.Enum.Declared.{tag_of}
-use types.Run.{OneOf, miss}
 use borrow.Author.Tests.{lt-ltb, le-ltb}
 use lib.Dec.{eqb, ltb}
 use lib.ListN.{length, take}
@@ -117,9 +115,9 @@ module _ (m : Machine) (room n : ℕ) (p : List Float) (out : List ℕ) (e : Has
 -- ---- the open question
 
 module _ (m : Machine) (n : ℕ) (p : List Float) where
-  pub asked_nothing : (q : Asked) → OneOf (0 ∷ 2 ∷ []) (tag_of the_type q) → asked q n p ≡ H.Answer.asked (question m) → HasEnded m
+  pub asked_nothing : (q : Asked) → ((k : ℕ) → q ≡ Q.Is k → ⊥) → asked q n p ≡ H.Answer.asked (question m) → HasEnded m
   asked_nothing Q.Nothing o e = cc
-  asked_nothing (Q.Is k) o e = absurd (miss (0 ∷ 2 ∷ []) 1 tt o)
+  asked_nothing (Q.Is k) o e = absurd (o k refl)
   asked_nothing (Q.Refused c) o e = let z : ◌≡◌ {A = ℕ} 0 1 = cc in absurd (omega arith)
 
   pub asked_put : (q : Asked) (k room r : ℕ) (out out' : List ℕ) → q ≡ Q.Is k → asked q n p ≡ H.Answer.asked (question m)

@@ -40,16 +40,16 @@ kept_trans h k = record {
 pub same_fit : {F : M.Machine → M.Machine} {t r s : Fit} → r ≡ s → Turns F t s → Turns F t r
 same_fit e h = rw e h
 
--- vector_g does to this machine what F does
-pub turns_as : {F vector_g : M.Machine → M.Machine} {t r : Fit} → Turns F t r → ((v : Vecs) → F (machine t v) ≡ vector_g (machine t v)) → Turns vector_g t r
+-- G does to this machine what F does
+pub turns_as : {F G : M.Machine → M.Machine} {t r : Fit} → Turns F t r → ((v : Vecs) → F (machine t v) ≡ G (machine t v)) → Turns G t r
 turns_as h e = record { shape = h.shape; kept = h.kept; is = λ v. h.is v ∙ e v }
 
 -- one after the other
-pub turns_then : {F vector_g : M.Machine → M.Machine} {t s r : Fit} → Turns F t s → Turns vector_g s r → Turns (λ (m : M.Machine). vector_g (F m)) t r
-turns_then {vector_g = vector_g} h k = record {
+pub turns_then : {F G : M.Machine → M.Machine} {t s r : Fit} → Turns F t s → Turns G s r → Turns (λ (m : M.Machine). G (F m)) t r
+turns_then {G = G} h k = record {
   shape = k.shape ∙ h.shape;
   kept = kept_trans h.kept k.kept;
-  is = λ v. k.is v ∙ ap vector_g (h.is v);
+  is = λ v. k.is v ∙ ap G (h.is v);
 }
 
 pub phased : {p : Phase} {t r : Fit} → r ≡ with_phase p t → Turns (M.in_phase (phase_of p)) t r
@@ -101,10 +101,10 @@ model_same t {v = v} {w = w} r l h = same t v w (pairs_same t.shape v w r h) l
 -- ---- steps
 
 -- the vectors become w, then the fit s is taken through F
-pub stepped : {F vector_g : M.Machine → M.Machine} {w : Vecs} {t s r : Fit} {a b : List Float}
+pub stepped : {F G : M.Machine → M.Machine} {w : Vecs} {t s r : Fit} {a b : List Float}
     → Turns F s r → s.shape ≡ t.shape → Kept t s → view b t.shape.n ≡ w → Saved (view a t.shape.n) w
-    → F (machine s w) ≡ vector_g (machine_of t a) → Steps vector_g t a r b
-stepped {F} {vector_g} {w} {t} {s} {r} {a} {b} h q k e x g =
+    → F (machine s w) ≡ G (machine_of t a) → Steps G t a r b
+stepped {F} {G} {w} {t} {s} {r} {a} {b} h q k e x g =
     let d : r.shape ≡ t.shape = h.shape ∙ q in
     record {
       n = ap (λ (z : Shape). z.n) d;
@@ -120,33 +120,33 @@ stepped {F} {vector_g} {w} {t} {s} {r} {a} {b} h q k e x g =
     }
 
 -- the vectors become w, and the fit r
-pub moved : {vector_g : M.Machine → M.Machine} {w : Vecs} {t r : Fit} {a b : List Float}
-    → r.shape ≡ t.shape → Kept t r → view b t.shape.n ≡ w → Saved (view a t.shape.n) w → machine r w ≡ vector_g (machine_of t a) → Steps vector_g t a r b
+pub moved : {G : M.Machine → M.Machine} {w : Vecs} {t r : Fit} {a b : List Float}
+    → r.shape ≡ t.shape → Kept t r → view b t.shape.n ≡ w → Saved (view a t.shape.n) w → machine r w ≡ G (machine_of t a) → Steps G t a r b
 moved {r = r} q k e x g = stepped {F = λ (m : M.Machine). m} {s = r} (record { shape = refl; kept = kept_refl; is = λ v. refl }) q k e x g
 
 -- the area stays
-pub still : {F vector_g : M.Machine → M.Machine} {t r : Fit} {a : List Float} → Turns F t r → F (machine_of t a) ≡ vector_g (machine_of t a) → Steps vector_g t a r a
+pub still : {F G : M.Machine → M.Machine} {t r : Fit} {a : List Float} → Turns F t r → F (machine_of t a) ≡ G (machine_of t a) → Steps G t a r a
 still h e = stepped h refl kept_refl refl saved_refl e
 
--- vector_g does to this machine what F does
-pub steps_as : {F vector_g : M.Machine → M.Machine} {t r : Fit} {a b : List Float} → Steps F t a r b → F (machine_of t a) ≡ vector_g (machine_of t a) → Steps vector_g t a r b
+-- G does to this machine what F does
+pub steps_as : {F G : M.Machine → M.Machine} {t r : Fit} {a b : List Float} → Steps F t a r b → F (machine_of t a) ≡ G (machine_of t a) → Steps G t a r b
 steps_as h e = record { n = h.n; m = h.m; sound = h.sound; kept = h.kept; saved = h.saved; is = h.is ∙ e }
 
 -- one after the other
-pub steps_then : {F vector_g : M.Machine → M.Machine} {t s r : Fit} {a b d : List Float} → Steps F t a s b → Steps vector_g s b r d
-    → Steps (λ (m : M.Machine). vector_g (F m)) t a r d
-steps_then {vector_g = vector_g} h k = record {
+pub steps_then : {F G : M.Machine → M.Machine} {t s r : Fit} {a b d : List Float} → Steps F t a s b → Steps G s b r d
+    → Steps (λ (m : M.Machine). G (F m)) t a r d
+steps_then {G = G} h k = record {
   n = k.n ∙ h.n;
   m = k.m ∙ h.m;
   sound = λ size l. k.sound size (h.sound size l);
   kept = kept_trans h.kept k.kept;
   saved = saved_trans h.saved (rw h.n at k.saved);
-  is = k.is ∙ ap vector_g h.is;
+  is = k.is ∙ ap G h.is;
 }
 
 -- the same, seen from the fit or the area before
-pub steps_from : {F vector_g : M.Machine → M.Machine} {s t r : Fit} {a b : List Float}
-    → Steps F s a r b → s.shape ≡ t.shape → Kept t s → F (machine_of s a) ≡ vector_g (machine_of t a) → Steps vector_g t a r b
+pub steps_from : {F G : M.Machine → M.Machine} {s t r : Fit} {a b : List Float}
+    → Steps F s a r b → s.shape ≡ t.shape → Kept t s → F (machine_of s a) ≡ G (machine_of t a) → Steps G t a r b
 steps_from h q k e = record {
   n = h.n ∙ ap (λ (z : Shape). z.n) q;
   m = h.m ∙ ap (λ (z : Shape). z.m) q;
@@ -156,8 +156,8 @@ steps_from h q k e = record {
   is = h.is ∙ e;
 }
 
-pub steps_at_lem : {F vector_g : M.Machine → M.Machine} {t r : Fit} {a b d : List Float} {w : Vecs}
-    → Steps F t b r d → view b t.shape.n ≡ w → Saved (view a t.shape.n) w → F (machine t w) ≡ vector_g (machine_of t a) → Steps vector_g t a r d
+pub steps_at_lem : {F G : M.Machine → M.Machine} {t r : Fit} {a b d : List Float} {w : Vecs}
+    → Steps F t b r d → view b t.shape.n ≡ w → Saved (view a t.shape.n) w → F (machine t w) ≡ G (machine_of t a) → Steps G t a r d
 steps_at_lem {F = F} {t = t} h e x g = record {
   n = h.n;
   m = h.m;

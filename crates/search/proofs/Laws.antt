@@ -3,11 +3,8 @@
 use Prim.Native.Nat.{ℕ, ◌<◌}
 use native.Mathlib.Omega.{arith}
 use mathlib.Core.Path.{◌≡◌, refl, subst}
-use mathlib.Core.List.{[], ◌∷◌}
 use mathlib.Core.Option.{Option, none, some}
 use mathlib.Core.Bool.{Bool, true, false, not, ◌||◌}
-use denote.Enum.Declared.{tag_of}
-use types.Run.{OneOf, miss}
 use borrow.Author.Tests.{not-true, leb-true, leb-false, lt-ltb, le-ltb}
 use lib.Dec.{leb, ltb}
 use lib.Ieee.{Float, eq}
@@ -17,7 +14,6 @@ use Rattle.definition.specs.Search.{goes_on}
 use Rattle.search.specs.State.{verdict_of, Settled, VerdictSettled}
 use Rattle.search.specs.declared.Search.{Search}
 use Rattle.search.specs.declared.Verdict.{Verdict}
-use Rattle.search.specs.contracts.Verdict.{the_type}
 use Rattle.search.specs.declared.Verdict.TheVariants.{Accepted, Another, Failed}
 
 pub below_is_not_from : (a b : ℕ) → ltb b a ≡ not (leb a b)
@@ -49,13 +45,13 @@ not_accepted : (o : Option S.Search) → S.Verdict.accepted ≡ S.or_failed o �
 not_accepted none e = subst Accepts e tt
 not_accepted (some s) e = subst Accepts e tt
 
-pub start_failed : (r : Verdict) (o : Option S.Search) → OneOf (0 ∷ 2 ∷ []) (tag_of the_type r) → verdict_of r ≡ S.or_failed o → verdict_of r ≡ S.Verdict.failed
+pub start_failed : (r : Verdict) (o : Option S.Search) → ((s : Search) → r ≡ Another s → ⊥) → verdict_of r ≡ S.or_failed o → verdict_of r ≡ S.Verdict.failed
 start_failed Accepted o h e = absurd (not_accepted o e)
-start_failed (Another s) o h e = absurd (miss (0 ∷ 2 ∷ []) 1 tt h)
+start_failed (Another s) o h e = absurd (h s refl)
 start_failed Failed o h e = refl
 
 -- a step that is not accepted, and no other trial
-pub judged_failed : (r : Verdict) → OneOf (1 ∷ 2 ∷ []) (tag_of the_type r) → OneOf (0 ∷ 2 ∷ []) (tag_of the_type r) → verdict_of r ≡ S.Verdict.failed
-judged_failed Accepted h k = absurd (miss (1 ∷ 2 ∷ []) 0 tt h)
-judged_failed (Another s) h k = absurd (miss (0 ∷ 2 ∷ []) 1 tt k)
+pub judged_failed : (r : Verdict) → (r ≡ Accepted → ⊥) → ((s : Search) → r ≡ Another s → ⊥) → verdict_of r ≡ S.Verdict.failed
+judged_failed Accepted h k = absurd (h refl)
+judged_failed (Another s) h k = absurd (k s refl)
 judged_failed Failed h k = refl

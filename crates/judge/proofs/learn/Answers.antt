@@ -15,8 +15,7 @@ use Rattle.compact.specs.State.{Updated, compact_of}
 use Rattle.fit.specs.declared.Fit.{Fit}
 use Rattle.fit.specs.State.{Steps, machine}
 use Rattle.fit.proofs.Laws.{with_ring, compacted, steps_as, pairs_kept}
-use Rattle.judge.proofs.learn.Statement.{statement}
-use Rattle.judge.proofs.learn.Tie as tie
+use Rattle.judge.proofs.learn.Goals as goal
 
 -- the vectors with the step and the change of the gradient in scratch
 abbrev steps_in : ℕ → Vecs → Vecs
@@ -44,12 +43,8 @@ learnt {t} {a = a} e u =
     (λ q l m. u.kept q m ∙ (λ i. e i q) ∙ s.free q l m))
     (learn_at t v)
 
-returns : tie.Need-returns
+pub returns : goal.returns
 returns c =
-    let b = c.before.before.before.before.before.before.before.before in
     learnt
-    (b.difference2.ensures ∙ ap (difference_of _ vector_displacement vector_trial_gradient vector_g) b.before.before.before.before.difference.ensures)
-    c.before.before.before.update.ensures
-
-pub learn-spec : {M : Type 1} → statement M
-learn-spec = tie.close (tie.spec (λ c κs. search rules) (λ c κs. search rules) (λ c κs. search rules) (λ c. search rules) returns)
+    (c.difference-2.ensures ∙ ap (difference_of _ vector_displacement vector_trial_gradient vector_g) c.difference.ensures)
+    c.update-updated.ensures
