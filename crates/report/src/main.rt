@@ -1,28 +1,25 @@
 // The report program: a record on standard input, its report on standard output. One byte more than 65,536 is enough to refuse.
 #![tactic(auto)]
 
+ghost use Rattle.std.specs.Prelude.{OnOk, IfSome};
+ghost use Rattle.std.specs.Io.KnownBytes.{Appends};
+ghost use Rattle.definition.specs.Programs.{printed};
+ghost use Rattle.text.specs.Text.{text_of};
+
+use std::alloc::Global;
 use std::io;
 use std::io::{Read, Write};
 
-// Reads until buf is full or the input ends, and answers how many bytes came.
-fn read_full<I: Read>(input: &mut I, buf: &mut [u8]) -> io::Result<usize>
-    ensures { IfOk result (λ n. n ≤ length buf.new) }
+// What is left of an input gives its text, however long it is.
+fn report<I: Read + Drop, O: Write>(alloc: Global, input: I, output: &mut O) -> io::Result<()>
+    ensures { OnOk result (IfSome (I.remaining input)
+        (λ bs. Appends (O.contents output.old) (O.contents output.new) (text_of (printed bs)))) }
 {
-    let mut end = 0;
-    for _ in 0..u64::MAX {
-        let n = input.read(&mut buf[end..])?;
-        if n == 0 {
-            break;
-        }
-        end += n;
-    }
-    Ok(end)
+    let mut bytes = Vec::new(alloc);
+    input.take(65_537).read_to_end(&mut bytes)?;
+    text::write_text(output, &bytes)
 }
 
 fn main(rt: HostRuntime) -> io::Result<()> {
-    let mut input = [0u8; 65537];
-    let size = read_full(&mut rt.reader(), &mut input)?;
-    let mut out = [0u8; 2048];
-    let end = text::put_text(&input[0..size], &mut out);
-    io::writer(&rt).write_all(&out[0..end])
+    report(rt.alloc(), rt.reader(), &mut io::writer(&rt))
 }

@@ -3,7 +3,7 @@
 #![tactic(auto)]
 
 use std::io;
-use std::io::{Read, Write};
+use std::io::Read;
 
 // The next input: a word of how many zero bytes it begins with, a word of how many bytes follow, and these. Whether it came whole.
 fn one_case<R: Print, F: Read>(rt: &R, file: &mut F) -> io::Result<bool> {
@@ -26,9 +26,7 @@ fn print<R: Print>(rt: &R, input: &[u8], end: usize) -> io::Result<()> {
     if end > input.len() {
         return Ok(());
     }
-    let mut out = [0u8; 2048];
-    let size = text::put_text(&input[0..end], &mut out);
-    io::writer(rt).write_all(&out[0..size])
+    text::write_text(&mut io::writer(rt), &input[0..end])
 }
 
 // Every input of the file. Nothing says that a file ends, so the turns are counted up to the most.
