@@ -275,7 +275,7 @@ reached_more {t} {f} {g} {a} {b} {d} h l size k = record {
   is = λ s c e. replayed_more c (h.is s c e) k;
 }
 
-pub reached_run : {t f g : Fit} {a b d : List Float} {ws : List ℕ} {limit room : ℕ}
+pub reached_run : {ws : List ℕ} {limit room : ℕ} {t f : Fit} {a b : List Float} {g : Fit} {d : List Float}
     → Reached t a ws limit room f b → Run ws limit room f b g d → Reached t a ws limit room g d
 reached_run h Run.begun = h
 reached_run h (Run.taken f b g d r l size k) = reached_more (reached_run h r) l size k

@@ -169,7 +169,7 @@ pub run_built : {ws : List ℕ} {limit room : ℕ} {t : Fit} {w : Place} {a b : 
 run_built {ws} {limit} {room} {t} {w} {a} {b} h e = subst (λ (g : Fit). Run ws limit room t a g b) (sym e) h.taken
 
 -- no entry is struck
-pub run_least : {ws : List ℕ} {limit room : ℕ} {t f : Fit} {a b : List Float} → Run ws limit room t a f b → t.extra.words ≤ f.extra.words
+pub run_least : {ws : List ℕ} {limit room : ℕ} {t : Fit} {a : List Float} {f : Fit} {b : List Float} → Run ws limit room t a f b → t.extra.words ≤ f.extra.words
 run_least Run.begun = omega arith
 run_least (Run.taken f b g d r l size k) = omega (arith, run_least r, took_more k)
 

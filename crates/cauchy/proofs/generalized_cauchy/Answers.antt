@@ -16,18 +16,10 @@ segment_from-segment-requires c =
       c.find_breaks-breaks.ensures.listed,
     )
 
--- TODO enum-known-segment
--- enum-known-segment : tie.Need-enum-known-segment invariant-loop decreases-loop
--- enum-known-segment c = c.match.keys1
-
 pub returns-in-Ended : goal.returns-in-Ended
 returns-in-Ended c =
     walks _ _ c.find_breaks-breaks.ensures c.begin_path-path.ensures
     (walking_ends c.loop-ok.invariant.0 c.segment_from-segment.ensures _ c.in-Ended.is)
-
--- TODO enum-known-segment-2
--- enum-known-segment-2 : tie.Need-enum-known-segment-2 invariant-loop decreases-loop
--- enum-known-segment-2 c = c.match.keys2
 
 pub returns-then-remaining-eq0 : goal.returns-then-remaining-eq0
 returns-then-remaining-eq0 c =
@@ -35,8 +27,7 @@ returns-then-remaining-eq0 c =
     (walking_stops c.loop-ok.invariant.0 c.segment_from-segment.ensures _ c.in-Onward.is c.if-remaining-eq0.true)
 
 pub loop-ok-preserved : goal.loop-ok-preserved
-loop-ok-preserved c =
-    (
-      walking_more c.loop-ok.invariant.0 c.segment_from-segment.ensures _ c.in-Onward.is c.if-remaining-eq0.false,
-      c.area-in-loop-ok-1.given ∙ c.loop-ok.invariant.1,
-    )
+loop-ok-preserved c = (
+  walking_more c.loop-ok.invariant.0 c.segment_from-segment.ensures _ c.in-Onward.is c.if-remaining-eq0.false,
+  c.area-in-loop-ok-1.given ∙ c.loop-ok.invariant.1,
+)

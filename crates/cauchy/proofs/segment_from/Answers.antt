@@ -19,13 +19,12 @@ returns-then-not-product c =
     segment_fails₁ s.shape s.theta s.breaks s.path c.still.ensures c.if-still.false c.product.ensures (ap not c.if-not-product.true)
 
 pub product-requires-2 : goal.product-requires-2
-product-requires-2 c =
-    (
-      rw (← c.area-2-1.given) at c.requires.0,
-      prepared_kept _ (product_kept vector_product_d c.product.ensures (omega arith) (omega arith)).high c.requires.1,
-      omega arith,
-      omega arith,
-    )
+product-requires-2 c = (
+  rw (← c.area-2-1.given) at c.requires.0,
+  prepared_kept _ (product_kept vector_product_d c.product.ensures (omega arith) (omega arith)).high c.requires.1,
+  omega arith,
+  omega arith,
+)
 
 pub returns-then-not-product-2 : goal.returns-then-not-product-2
 returns-then-not-product-2 c =

@@ -9,12 +9,11 @@ use Rattle.cauchy.proofs.Paths.{Stopping, stopping_none, stopping_more, stopping
 use Rattle.cauchy.proofs.stop_all.Goals as goal
 
 pub loop-reached-preserved : goal.loop-reached-preserved
-loop-reached-preserved c =
-    (
-      stopping_more c.requires.1 c.loop-reached.invariant.0 c.loop-reached-test.true c.entry-entry.ensures c.if-entry-time.true
-          c.stop-reached.ensures,
-      c.area-1.given ∙ c.loop-reached.invariant.1,
-    )
+loop-reached-preserved c = (
+  stopping_more c.requires.1 c.loop-reached.invariant.0 c.loop-reached-test.true c.entry-entry.ensures c.if-entry-time.true
+      c.stop-reached.ensures,
+  c.area-1.given ∙ c.loop-reached.invariant.1,
+)
 
 pub returns-else-entry-time : goal.returns-else-entry-time
 returns-else-entry-time c =

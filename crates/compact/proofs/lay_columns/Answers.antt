@@ -9,11 +9,10 @@ use Rattle.compact.proofs.Columns.{Laying, laying_none, laying_more, laying_done
 use Rattle.compact.proofs.lay_columns.Goals as goal
 
 pub loop-column-preserved : goal.loop-column-preserved
-loop-column-preserved c =
-    (
-      laying_more c.requires c.loop-column.invariant.0 (omega arith) c.lay_column.ensures,
-      c.area-1.given ∙ c.loop-column.invariant.1,
-    )
+loop-column-preserved c = (
+  laying_more c.requires c.loop-column.invariant.0 (omega arith) c.lay_column.ensures,
+  c.area-1.given ∙ c.loop-column.invariant.1,
+)
 
 pub returns : goal.returns
 returns c = laying_done c.requires c.loop-column.invariant.0 (omega arith)

@@ -6,7 +6,6 @@ use Rattle.differences.proofs.Laws.{gradient_put}
 use Rattle.differences.proofs.Leads.{leads_settled, leads_ready}
 use Rattle.differences.proofs.on_not_supplied.Goals as goal
 
--- TODO n.numbers_of-numbers.ensures.0
 pub returns : goal.returns
 unfolding of_bits
 returns c =

@@ -13,14 +13,13 @@ returns-then-not-is_finite c =
 
 pub returns-then-slope0 : goal.returns-then-slope0
 unfolding of_bits
-returns-then-slope0 c =
-    (
-      c.with_limit.ensures.0
-          ∙ ap (λ (l : Limit). or_failed (with_limit c.dot-slope0.result l)) c.limit_of.ensures
-          ∙ ap or_failed (sym (begin_downhill _ _ _ _ _ c.dot-slope0.ensures
-          (sym c.is_finite.ensures ∙ c.if-not-is_finite.false) c.if-slope0.true)),
-      c.with_limit.ensures.1,
-    )
+returns-then-slope0 c = (
+  c.with_limit.ensures.0
+      ∙ ap (λ (l : Limit). or_failed (with_limit c.dot-slope0.result l)) c.limit_of.ensures
+      ∙ ap or_failed (sym (begin_downhill _ _ _ _ _ c.dot-slope0.ensures
+      (sym c.is_finite.ensures ∙ c.if-not-is_finite.false) c.if-slope0.true)),
+  c.with_limit.ensures.1,
+)
 
 pub returns : goal.returns
 unfolding of_bits

@@ -1,0 +1,19 @@
+-- `replay::store_bytes` meets its contract: in its loop word i of the trial's gradient becomes the float of eight bytes. Assumes nothing.
+use mathlib.Core.Path.{ap, ◌∙◌}
+use mathlib.Core.List.{map}
+use Prim.Native.Nat.{◌-◌}
+use native.Mathlib.Omega.{arith}
+use lib.ListN.{drop}
+use Rattle.definition.specs.Number.{to_float}
+use Rattle.definition.specs.Vector.{word}
+use Rattle.definition.specs.Record.{words_of}
+use Rattle.area.specs.Area.{vector_trial_gradient}
+use Rattle.area.proofs.Laws.{Row, row_none, row_more, row_stored, laws}
+use Rattle.replay.proofs.Words.{byte_float, byte_floats}
+use Rattle.replay.proofs.store_bytes.Given as goal
+
+abbrev pub invariant-loop-i : goal.invariant-loop-i
+invariant-loop-i l = Row l.initial.area l.n vector_trial_gradient (λ i w. word (map to_float (words_of l.n (drop l.at l.input))) i) l.area l.i
+
+abbrev pub decreases-loop-i : goal.decreases-loop-i
+decreases-loop-i l = l.n - l.i
