@@ -51,7 +51,8 @@
  *
  * Time: a call replays every entry, so a fit of k replies costs on the order of k * k steps in all.
  *
- * Link with a C library for memcpy, memmove and memset; nothing else is needed. x86-64. */
+ * `tools/build entry` proves and builds the archive, target/staticlib/libentry.a. Link it with a C library for memcpy, memmove and memset; nothing
+ * else is needed. x86-64, with the instructions of x86-64-v2. */
 #ifndef LBFGSB_H
 #define LBFGSB_H
 

@@ -1,0 +1,14 @@
+-- `rebuild::copy_entries` meets its contract: the first i words are the record's. Assumes nothing.
+use native.Mathlib.Omega.{arith}
+use Prim.Native.Nat.{◌-◌}
+use Rattle.rebuild.proofs.Pasted.{copying_done, Copying, copying_none, laws}
+use Rattle.rebuild.proofs.copy_entries.Goals as goal
+
+pub loop-i-init : goal.loop-i-init
+loop-i-init c = let a = c.args in copying_none a.log.now a.input.now a.at a.count c.requires.1
+
+pub loop-i-preserved : goal.loop-i-preserved
+loop-i-preserved c = search laws
+
+pub returns : goal.returns
+returns c = copying_done c.loop-i.invariant (omega arith)
