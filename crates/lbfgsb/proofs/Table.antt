@@ -56,14 +56,14 @@ question_numbered room w = by_test N (is_held w.state w.area) (λ _. go (questio
 
     go : (q : Option Question) → N (question_of w room q)
     go none = tt
-    go (some q) = answered _ (Answer.asked (some q)) (short room w.state.shape.n refl) tt
+    go (some q) = answered {numbers = refusals_of (Call.question room)} _ (Answer.asked (some q)) (short room w.state.shape.n refl) tt
 
 report_numbered : (room : ℕ) (w : Words) → AnswerNumbered (refusals_of (Call.report room)) (answer_at (Call.report room) w)
 report_numbered room w =
     let none = unreported (machine_in w).phase in
     let n = w.state.shape.n in
     by_test (AnswerNumbered (refusals_of (Call.report room))) (is_held w.state w.area)
-    (λ _. answered _ _ (both (when none (refuse 15 0 0)) (output_short room n) (tested none 15 0 0 refl) (short room n refl)) tt)
+    (λ _. answered {numbers = refusals_of (Call.report room)} _ _ (both (when none (refuse 15 0 0)) (output_short room n) (tested none 15 0 0 refl) (short room n refl)) tt)
     (λ _. refl)
 
 -- a read of the log, which needs so many elements of its output
@@ -77,7 +77,7 @@ log_read row w room needed held unheld a b h u =
     (λ _. u)
 
 pub answer_numbered : (c : Call) (w : Words) → AnswerNumbered (refusals_of c) (answer_at c w)
-answer_numbered (Call.start s) w = answered _ Answer.done (opening (lengths w) s) tt
+answer_numbered (Call.start s) w = answered {numbers = refusals_of (Call.start s)} _ Answer.done (opening (lengths w) s) tt
 answer_numbered (Call.restore bs) w = restores (read_record (lengths w) bs) (record_numbered (lengths w) bs)
 answer_numbered (Call.reply r) w = reply_numbered r w
 answer_numbered (Call.take_back j) w = back_numbered j w
