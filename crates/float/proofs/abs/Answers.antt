@@ -1,5 +1,4 @@
 -- `float::abs` meets its contract. Assumes nothing.
-use borrow.Author.Rules.{rules}
 use Rattle.float.proofs.Laws.{abs_of_word}
 use Rattle.float.proofs.abs.Goals as goal
 

@@ -1,5 +1,4 @@
 -- `float::float_to_word` meets its contract. Assumes nothing.
-use borrow.Author.Rules.{rules}
 use lib.Ieee.{to_bits}
 use Rattle.float.proofs.Laws.{nan_of_ne, not_nan_of_eq}
 use Rattle.float.proofs.float_to_word.Goals as goal

@@ -1,6 +1,5 @@
 -- `float::is_finite` meets its contract: the finite floats are those whose magnitude is below infinity. Assumes nothing.
 use mathlib.Core.Path.{◌≡◌, refl}
-use borrow.Author.Rules.{rules}
 use lib.Ieee.{Float, nan, inf, fin, lt}
 use lib.Ieee.Scale.{finite}
 use Rattle.definition.specs.Number.{abs, infinity}

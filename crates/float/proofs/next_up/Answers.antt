@@ -1,5 +1,4 @@
 -- `float::next_up` meets its contract. Assumes nothing.
-use borrow.Author.Rules.{rules}
 use Rattle.float.proofs.Laws.{ne_self}
 use Rattle.float.proofs.next_up.Goals as goal
 

@@ -1,7 +1,5 @@
 -- `float::word_below` meets its contract: each test of the code is one of the definition. No word is so high that one more would not fit. Assumes nothing.
 use native.Mathlib.Omega.{arith}
-use borrow.Author.Rules.{rules}
-use borrow.Author.Tests.{eq-eqb, ne_eqb, lt-ltb, le-ltb}
 use Rattle.float.proofs.Laws.{word_most}
 use Rattle.float.proofs.word_below.Goals as goal
 

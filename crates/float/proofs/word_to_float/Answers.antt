@@ -1,7 +1,6 @@
 -- `float::word_to_float` meets its contract: a word above the infinity's, but for its sign, is a NaN's. Assumes nothing.
 use mathlib.Core.Path.{refl}
 use native.Mathlib.Omega.{arith}
-use borrow.Author.Rules.{rules}
 use lib.Ieee.{div, of_bits}
 use Rattle.float.proofs.Laws.{nan_of_word, not_nan_of_word}
 use Rattle.float.proofs.word_to_float.Goals as goal
