@@ -3,7 +3,10 @@
 
 ghost use Rattle.std.specs.Prelude.{◌≤◌};
 
-use libc::STDOUT_FILENO;
+use std::fs::File;
+use std::io::{ErrorKind, Read};
+use std::rt::{Env, Files};
+use std::{env, io};
 
 // ---- words in bytes
 
@@ -80,39 +83,50 @@ pub fn put_words(x: &mut [u64], s: &[u8], i: usize) {
 
 // ---- a file
 
-// The file that the first argument names. Where it cannot be read that is said, and the answer is negative.
-pub fn opened() -> i32 {
-    let mut path = io::buffer();
-    let length = os::arg(1, &mut path);
-    let fd = os::open_read(&path[..length]);
-    if fd < 0 {
-        os::fail(&path[..length]);
+// The file that the first argument names. Where it cannot be opened that is said, and there is none.
+pub fn opened<R: Env + Files + Alloc + Eprint>(rt: &R) -> io::Result<Option<R::File>> {
+    let named = env::args(rt)?.nth(1);
+    let path = named.unwrap_or(String::new(rt.alloc()));
+    match File::open(rt, path.as_str()) {
+        Ok(file) => Ok(Some(file)),
+        Err(error) => {
+            eprintln!(rt; "{path}: {error}")?;
+            Ok(None)
+        }
     }
-    fd
 }
 
-// Reads to buf from one byte to another, and answers whether all of it came.
-pub fn fetch_bytes(fd: i32, buf: &mut [u8], from: usize, to: usize) -> bool {
+// Reads to buf from one byte to another, and answers whether all of it came: it does not where buf is too short or the file ends before.
+pub fn fetch_bytes<F: Read>(
+    file: &mut F,
+    buf: &mut [u8],
+    from: usize,
+    to: usize,
+) -> io::Result<bool> {
     if to > buf.len() {
-        return false;
+        return Ok(false);
     }
     if from > to {
-        return false;
+        return Ok(false);
     }
-    io::read_full(fd, &mut buf[from..to]) == to - from
+    match file.read_exact(&mut buf[from..to]) {
+        Ok(()) => Ok(true),
+        Err(error) if error.kind() == ErrorKind::UnexpectedEof => Ok(false),
+        Err(error) => Err(error),
+    }
 }
 
 // Reads so many words to the words of buf from `at` on, and answers whether they came.
-pub fn fetch(fd: i32, buf: &mut [u8], at: usize, words: usize) -> bool {
+pub fn fetch<F: Read>(file: &mut F, buf: &mut [u8], at: usize, words: usize) -> io::Result<bool> {
     let room = buf.len() / 8;
     if at > room {
-        return false;
+        return Ok(false);
     }
     if words > room - at {
-        return false;
+        return Ok(false);
     }
     let from = 8 * at;
-    fetch_bytes(fd, buf, from, from + 8 * words)
+    fetch_bytes(file, buf, from, from + 8 * words)
 }
 
 // The next word of a file.
@@ -122,12 +136,12 @@ pub enum Next {
     Nothing,
 }
 
-pub fn fetch_word(fd: i32) -> Next {
+pub fn fetch_word<F: Read>(file: &mut F) -> io::Result<Next> {
     let mut one = [0u8; 8];
-    if fetch(fd, &mut one, 0, 1) {
-        return Next::Is(word(&one, 0));
+    if fetch(file, &mut one, 0, 1)? {
+        return Ok(Next::Is(word(&one, 0)));
     }
-    Next::Nothing
+    Ok(Next::Nothing)
 }
 
 // ---- counts
@@ -140,8 +154,6 @@ pub fn count(counts: &mut [u64], place: usize, more: u64) {
 }
 
 // A label, a number in decimal, and what follows it.
-pub fn line(label: &[u8], n: u64, end: &[u8]) {
-    io::write_all(STDOUT_FILENO, label);
-    io::print_decimal(STDOUT_FILENO, n);
-    io::write_all(STDOUT_FILENO, end);
+pub fn line<R: Print>(rt: &R, label: &str, n: u64, end: &str) -> io::Result<()> {
+    print!(rt; "{label}{n}{end}")
 }

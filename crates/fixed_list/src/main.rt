@@ -6,9 +6,14 @@
 use cases::{Next, after, fetch, fetch_word, is_count, least, size, word};
 use lbfgsb::{Answer, Asked, Fit, Outcome, Reply, Told};
 use record::Parsed;
+use std::io;
+use std::io::Read;
 
 // The bytes of the words that hold one byte more than an input may have.
 const INPUT: usize = 65_544;
+
+// The bytes of a fit's answers at most.
+const ANSWERS: usize = 65_536;
 
 // The refusal of an input that is no record.
 const MALFORMED: usize = 17;
@@ -45,49 +50,47 @@ enum Verdict {
 // ---- reading a case
 
 // Reads a question to the words of buf from `at` on, and answers the word after it: 0 where it did not come.
-fn fetch_question(fd: i32, buf: &mut [u8], at: usize, n: usize) -> usize {
-    if !fetch(fd, buf, at, 1) {
-        return 0;
+fn fetch_question<F: Read>(file: &mut F, buf: &mut [u8], at: usize, n: usize) -> io::Result<usize> {
+    if !fetch(file, buf, at, 1)? {
+        return Ok(0);
     }
     let point = after(at, 1);
     if word(buf, at) >= SAME_POINT {
-        return point;
+        return Ok(point);
     }
-    if !fetch(fd, buf, point, n) {
-        return 0;
+    if !fetch(file, buf, point, n)? {
+        return Ok(0);
     }
-    after(point, n)
+    Ok(after(point, n))
 }
 
 // Reads so many questions, and answers whether they came.
-fn fetch_all(fd: i32, buf: &mut [u8], count: usize, n: usize) -> bool {
+fn fetch_all<F: Read>(file: &mut F, buf: &mut [u8], count: usize, n: usize) -> io::Result<bool> {
     let mut at = FIRST;
-    let mut i = 0;
-    while i < count {
-        at = fetch_question(fd, buf, at, n);
+    for _ in 0..count {
+        at = fetch_question(file, buf, at, n)?;
         if at == 0 {
-            return false;
+            return Ok(false);
         }
-        i += 1;
     }
-    true
+    Ok(true)
 }
 
 // Reads the answers of a fit of n coordinates: the report's refusal, and unless there is one six words and the point; then the number of
 // questions, and these.
-fn fetch_answers(fd: i32, buf: &mut [u8], n: usize) -> bool {
-    if !fetch(fd, buf, 0, 1) {
-        return false;
+fn fetch_answers<F: Read>(file: &mut F, buf: &mut [u8], n: usize) -> io::Result<bool> {
+    if !fetch(file, buf, 0, 1)? {
+        return Ok(false);
     }
     let more = if word(buf, 0) == 0 { after(6, n) } else { 0 };
-    if !fetch(fd, buf, 1, more) {
-        return false;
+    if !fetch(file, buf, 1, more)? {
+        return Ok(false);
     }
-    if !fetch(fd, buf, QUESTIONS, 1) {
-        return false;
+    if !fetch(file, buf, QUESTIONS, 1)? {
+        return Ok(false);
     }
     let count = size(buf, QUESTIONS);
-    fetch_all(fd, buf, count, n)
+    fetch_all(file, buf, count, n)
 }
 
 // ---- the report and the questions
@@ -290,15 +293,21 @@ fn is_fit(s: &[u8], input: &[u8], fit: Fit, area: &mut [f64], log: &mut [u64]) -
 }
 
 // An input that is accepted, as in the list, whose answers follow.
-fn accepted(fd: i32, input: &[u8], fit: Fit, area: &mut [f64], log: &mut [u64]) -> Verdict {
-    let mut buf = io::large_buffer();
-    if !fetch_answers(fd, &mut buf, fit.shape.n) {
-        return Verdict::Different(false);
+fn accepted<F: Read>(
+    file: &mut F,
+    input: &[u8],
+    fit: Fit,
+    area: &mut [f64],
+    log: &mut [u64],
+) -> io::Result<Verdict> {
+    let mut buf = [0u8; ANSWERS];
+    if !fetch_answers(file, &mut buf, fit.shape.n)? {
+        return Ok(Verdict::Different(false));
     }
     if is_fit(&buf, input, fit, area, log) {
-        return Verdict::Fit(word(&buf, QUESTIONS));
+        return Ok(Verdict::Fit(word(&buf, QUESTIONS)));
     }
-    Verdict::Different(true)
+    Ok(Verdict::Different(true))
 }
 
 // An input that is refused. The answers that the list may have instead cannot be passed over: only the fit has their n.
@@ -310,86 +319,100 @@ fn refused(number: usize, refusal: u64) -> Verdict {
 }
 
 // Restores the input, where the list has this refusal, 0 for none. A program refuses more than it takes before it restores.
-fn restored(fd: i32, input: &[u8], refusal: u64, area: &mut [f64], log: &mut [u64]) -> Verdict {
+fn restored<F: Read>(
+    file: &mut F,
+    input: &[u8],
+    refusal: u64,
+    area: &mut [f64],
+    log: &mut [u64],
+) -> io::Result<Verdict> {
     if input.len() > input::MOST {
-        return refused(MALFORMED, refusal);
+        return Ok(refused(MALFORMED, refusal));
     }
     let answer = lbfgsb::restore(lbfgsb::empty(), area, log, input);
     match answer {
-        Answer::Refused(c) => refused(c.number, refusal),
+        Answer::Refused(c) => Ok(refused(c.number, refusal)),
         Answer::Kept(f) => {
             if refusal != 0 {
-                return Verdict::Different(true);
+                return Ok(Verdict::Different(true));
             }
-            accepted(fd, input, f, area, log)
+            accepted(file, input, f, area, log)
         }
     }
 }
 
 // The next case, if there is one: the input's bytes, these in words, the refusal, and the answers.
-fn one_case(fd: i32, area: &mut [f64], log: &mut [u64], counts: &mut [u64]) -> Verdict {
-    let first = fetch_word(fd);
+fn one_case<F: Read>(
+    file: &mut F,
+    area: &mut [f64],
+    log: &mut [u64],
+    counts: &mut [u64],
+) -> io::Result<Verdict> {
+    let first = fetch_word(file)?;
     let Next::Is(bytes) = first else {
-        return Verdict::Nothing;
+        return Ok(Verdict::Nothing);
     };
     cases::count(counts, CASES, 1);
     let mut input = [0u8; INPUT];
     let end = bytes as usize;
-    if end > INPUT || !fetch(fd, &mut input, 0, (end + 7) / 8) {
-        return Verdict::Different(false);
+    if end > INPUT || !fetch(file, &mut input, 0, (end + 7) / 8)? {
+        return Ok(Verdict::Different(false));
     }
-    let second = fetch_word(fd);
+    let second = fetch_word(file)?;
     let Next::Is(refusal) = second else {
-        return Verdict::Different(false);
+        return Ok(Verdict::Different(false));
     };
-    restored(fd, &input[0..end], refusal, area, log)
+    restored(file, &input[0..end], refusal, area, log)
 }
 
 // ---- the cases in turn
 
 // Counts a case by what it shows, and answers whether there may be another. Where it differs its number is written, from 0 the first.
-fn tallied(counts: &mut [u64], number: u64, v: Verdict) -> bool {
+fn tallied<R: Print>(rt: &R, counts: &mut [u64], number: u64, v: Verdict) -> io::Result<bool> {
     match v {
-        Verdict::Nothing => return false,
+        Verdict::Nothing => return Ok(false),
         Verdict::Refused => cases::count(counts, REFUSED, 1),
         Verdict::Fit(questions) => {
             cases::count(counts, FITS, 1);
             cases::count(counts, ASKED, questions);
         }
         Verdict::Different(more) => {
-            cases::line(b"differs: case ", number, b"\n");
+            cases::line(rt, "differs: case ", number, "\n")?;
             cases::count(counts, DIFFERENT, 1);
-            return more;
+            return Ok(more);
         }
     }
-    true
+    Ok(true)
 }
 
 // Every case of the file. Nothing says that a file ends, so the cases are counted up to the most.
-fn replay(fd: i32, area: &mut [f64], log: &mut [u64], counts: &mut [u64]) {
-    let mut number = 0;
-    while number < u64::MAX {
-        let v = one_case(fd, area, log, counts);
-        if !tallied(counts, number, v) {
-            return;
+fn replay<R: Print, F: Read>(
+    rt: &R,
+    file: &mut F,
+    area: &mut [f64],
+    log: &mut [u64],
+    counts: &mut [u64],
+) -> io::Result<()> {
+    for number in 0..u64::MAX {
+        let v = one_case(file, area, log, counts)?;
+        if !tallied(rt, counts, number, v)? {
+            return Ok(());
         }
-        number += 1;
     }
+    Ok(())
 }
 
-fn main() {
-    let fd = cases::opened();
-    if fd < 0 {
-        return;
-    }
+fn main(rt: HostRuntime) -> io::Result<()> {
+    let Some(mut file) = cases::opened(&rt)? else {
+        return Ok(());
+    };
     let mut area = [0.0f64; input::AREA];
     let mut log = [0u64; input::LOG];
     let mut counts = [0u64; 5];
-    replay(fd, &mut area, &mut log, &mut counts);
-    cases::line(b"cases ", counts[CASES], b"\n");
-    cases::line(b"refused ", counts[REFUSED], b"\n");
-    cases::line(b"fits ", counts[FITS], b"\n");
-    cases::line(b"questions ", counts[ASKED], b"\n");
-    cases::line(b"different ", counts[DIFFERENT], b"\n");
-    libc::close(fd);
+    replay(&rt, &mut file, &mut area, &mut log, &mut counts)?;
+    cases::line(&rt, "cases ", counts[CASES], "\n")?;
+    cases::line(&rt, "refused ", counts[REFUSED], "\n")?;
+    cases::line(&rt, "fits ", counts[FITS], "\n")?;
+    cases::line(&rt, "questions ", counts[ASKED], "\n")?;
+    cases::line(&rt, "different ", counts[DIFFERENT], "\n")
 }

@@ -7,6 +7,8 @@ ghost use Rattle.area.specs.Area.{first_pair};
 ghost use Rattle.compact.specs.State.{Sound};
 
 use cases::{after, size, word};
+use std::io;
+use std::io::Read;
 
 // The kinds of cases. Those that are equal are counted at their kind, those that differ at DIFFERENT, the neighbours of floats at ABOVE.
 const ABOVE: usize = 0;
@@ -26,6 +28,9 @@ const MOST: usize = 16;
 
 // The words of an area for so many coordinates and pairs.
 const ROOM: usize = 1280;
+
+// The bytes of the largest case.
+const LARGEST: usize = 65_536;
 
 // Where the vectors go that a case of a kind from UPDATE on has behind its model, up to END.
 const END: usize = area::FIRST_PAIR;
@@ -366,39 +371,49 @@ fn is_equal(kind: usize, s: &[u8]) -> bool {
 }
 
 // Counts the case of a number and a kind with the words s. Where it differs, its number is written.
-fn judge(counts: &mut [u64], number: u64, kind: usize, s: &[u8]) {
+fn judge<R: Print>(
+    rt: &R,
+    counts: &mut [u64],
+    number: u64,
+    kind: usize,
+    s: &[u8],
+) -> io::Result<()> {
     if is_equal(kind, s) {
         cases::count(counts, kind, 1);
-    } else {
-        cases::line(b"case ", number, b" differs\n");
-        cases::count(counts, DIFFERENT, 1);
+        return Ok(());
     }
+    cases::count(counts, DIFFERENT, 1);
+    cases::line(rt, "case ", number, " differs\n")
 }
 
 // The next case, and whether there may be another.
-fn one_case(fd: i32, counts: &mut [u64], number: u64) -> bool {
+fn one_case<R: Print, F: Read>(
+    rt: &R,
+    file: &mut F,
+    counts: &mut [u64],
+    number: u64,
+) -> io::Result<bool> {
     let mut head = [0u8; 16];
-    if !cases::fetch(fd, &mut head, 0, 2) {
-        return false;
+    if !cases::fetch(file, &mut head, 0, 2)? {
+        return Ok(false);
     }
-    let mut buf = io::large_buffer();
-    if cases::fetch(fd, &mut buf, 0, size(&head, 1)) {
-        judge(counts, number, size(&head, 0), &buf);
-        return true;
+    let mut buf = [0u8; LARGEST];
+    if cases::fetch(file, &mut buf, 0, size(&head, 1))? {
+        judge(rt, counts, number, size(&head, 0), &buf)?;
+        return Ok(true);
     }
-    cases::line(b"case ", number, b" is cut\n");
-    false
+    cases::line(rt, "case ", number, " is cut\n")?;
+    Ok(false)
 }
 
 // Every case of the file. Nothing says that a file ends, so the cases are counted up to the most.
-fn replay(fd: i32, counts: &mut [u64]) {
-    let mut number = 0;
-    while number < u64::MAX {
-        if !one_case(fd, counts, number) {
-            return;
+fn replay<R: Print, F: Read>(rt: &R, file: &mut F, counts: &mut [u64]) -> io::Result<()> {
+    for number in 0..u64::MAX {
+        if !one_case(rt, file, counts, number)? {
+            return Ok(());
         }
-        number += 1;
     }
+    Ok(())
 }
 
 // Whether the float above x has the bits w.
@@ -408,25 +423,23 @@ fn above(counts: &mut [u64], x: f64, w: u64) {
     }
 }
 
-fn report(counts: &[u64; 6]) {
-    cases::line(b"next_up ", counts[ABOVE], b" equal\n");
-    cases::line(b"solve ", counts[SOLVE], b" equal\n");
-    cases::line(b"update ", counts[UPDATE], b" equal\n");
-    cases::line(b"times ", counts[TIMES], b" equal\n");
-    cases::line(b"geometry ", counts[GEOMETRY], b" equal\n");
-    cases::line(b"different ", counts[DIFFERENT], b"\n");
+fn report<R: Print>(rt: &R, counts: &[u64; 6]) -> io::Result<()> {
+    cases::line(rt, "next_up ", counts[ABOVE], " equal\n")?;
+    cases::line(rt, "solve ", counts[SOLVE], " equal\n")?;
+    cases::line(rt, "update ", counts[UPDATE], " equal\n")?;
+    cases::line(rt, "times ", counts[TIMES], " equal\n")?;
+    cases::line(rt, "geometry ", counts[GEOMETRY], " equal\n")?;
+    cases::line(rt, "different ", counts[DIFFERENT], "\n")
 }
 
-fn main() {
-    let fd = cases::opened();
-    if fd < 0 {
-        return;
-    }
+fn main(rt: HostRuntime) -> io::Result<()> {
+    let Some(mut file) = cases::opened(&rt)? else {
+        return Ok(());
+    };
     let mut counts = [0u64; 6];
     // From 1.0 up is 1 + 2^-52, and from 0 up is 2^-1074.
     above(&mut counts, 1.0, 0x3FF0_0000_0000_0001);
     above(&mut counts, 0.0, 1);
-    replay(fd, &mut counts);
-    report(&counts);
-    libc::close(fd);
+    replay(&rt, &mut file, &mut counts)?;
+    report(&rt, &counts)
 }

@@ -1,12 +1,25 @@
 // The report program: a record on standard input, its report on standard output. One byte more than 65,536 is enough to refuse.
 #![tactic(auto)]
 
-use libc::{STDIN_FILENO, STDOUT_FILENO};
+ghost use Rattle.std.specs.Prelude.{OnOk, IfSome};
+ghost use Rattle.std.specs.Io.KnownBytes.{Appends};
+ghost use Rattle.definition.specs.Programs.{printed};
+ghost use Rattle.text.specs.Text.{text_of};
 
-fn main() {
-    let mut input = [0u8; 65537];
-    let size = io::read_full(STDIN_FILENO, &mut input);
-    let mut out = [0u8; 2048];
-    let end = text::put_text(&input[0..size], &mut out);
-    io::write_all(STDOUT_FILENO, &out[0..end]);
+use std::alloc::Global;
+use std::io;
+use std::io::{Read, Write};
+
+// What is left of an input gives its text, however long it is.
+fn report<I: Read + Drop, O: Write>(alloc: Global, input: I, output: &mut O) -> io::Result<()>
+    ensures { OnOk result (IfSome (I.remaining input)
+        (λ bs. Appends (O.contents output.old) (O.contents output.new) (text_of (printed bs)))) }
+{
+    let mut bytes = Vec::new(alloc);
+    input.take(65_537).read_to_end(&mut bytes)?;
+    text::write_text(output, &bytes)
+}
+
+fn main(rt: HostRuntime) -> io::Result<()> {
+    report(rt.alloc(), rt.reader(), &mut io::writer(&rt))
 }

@@ -2,50 +2,46 @@
 // reports", has its format.
 #![tactic(auto)]
 
-use libc::STDOUT_FILENO;
+use std::io;
+use std::io::Read;
 
 // The next input: a word of how many zero bytes it begins with, a word of how many bytes follow, and these. Whether it came whole.
-fn one_case(fd: i32) -> bool {
+fn one_case<R: Print, F: Read>(rt: &R, file: &mut F) -> io::Result<bool> {
     let mut head = [0u8; 16];
-    if !cases::fetch(fd, &mut head, 0, 2) {
-        return false;
+    if !cases::fetch(file, &mut head, 0, 2)? {
+        return Ok(false);
     }
     let zeros = cases::size(&head, 0);
     let mut input = [0u8; 65537];
     let end = cases::after(zeros, cases::size(&head, 1));
-    if !cases::fetch_bytes(fd, &mut input, zeros, end) {
-        return false;
+    if !cases::fetch_bytes(file, &mut input, zeros, end)? {
+        return Ok(false);
     }
-    print(&input, end);
-    true
+    print(rt, &input, end)?;
+    Ok(true)
 }
 
 // The text of the first `end` bytes.
-fn print(input: &[u8], end: usize) {
+fn print<R: Print>(rt: &R, input: &[u8], end: usize) -> io::Result<()> {
     if end > input.len() {
-        return;
+        return Ok(());
     }
-    let mut out = [0u8; 2048];
-    let size = text::put_text(&input[0..end], &mut out);
-    io::write_all(STDOUT_FILENO, &out[0..size]);
+    text::write_text(&mut io::writer(rt), &input[0..end])
 }
 
-// Every input of the file. Nothing says that a file ends, so the turns are counted down.
-fn run(fd: i32) {
-    let mut turns = u64::MAX;
-    while turns > 0 {
-        if !one_case(fd) {
-            return;
+// Every input of the file. Nothing says that a file ends, so the turns are counted up to the most.
+fn run<R: Print, F: Read>(rt: &R, file: &mut F) -> io::Result<()> {
+    for _ in 0..u64::MAX {
+        if !one_case(rt, file)? {
+            return Ok(());
         }
-        turns -= 1;
     }
+    Ok(())
 }
 
-fn main() {
-    let fd = cases::opened();
-    if fd < 0 {
-        return;
-    }
-    run(fd);
-    libc::close(fd);
+fn main(rt: HostRuntime) -> io::Result<()> {
+    let Some(mut file) = cases::opened(&rt)? else {
+        return Ok(());
+    };
+    run(&rt, &mut file)
 }

@@ -6,8 +6,8 @@
 
 use cases::{after, least};
 use lbfgsb::Fit;
-use libc::STDOUT_FILENO;
 use script::Shown;
+use std::io;
 
 const START: u64 = 0;
 
@@ -199,51 +199,54 @@ fn words_from(first: usize) -> [u64; LONGEST] {
 
 // ---- writing
 
-fn numbers(kind: &[u8], of: &[usize]) {
-    io::write_all(STDOUT_FILENO, kind);
-    let mut i = 0;
-    while i < of.len() {
-        io::write_all(STDOUT_FILENO, b" ");
-        io::print_decimal(STDOUT_FILENO, of[i] as u64);
-        i += 1;
+fn numbers<R: Print>(rt: &R, kind: &str, of: &[usize]) -> io::Result<()> {
+    print!(rt; "{kind}")?;
+    for n in of {
+        print!(rt; " {n}")?;
     }
+    Ok(())
 }
 
-fn word(w: u64) {
-    io::write_all(STDOUT_FILENO, b" ");
-    io::print_hex(STDOUT_FILENO, w, 16);
+fn word<R: Print>(rt: &R, w: u64) -> io::Result<()> {
+    print!(rt; " {w:016x}")
 }
 
-fn show(last: Shown, point: f64, first: u64, second: u64) {
+fn show<R: Print>(rt: &R, last: Shown, point: f64, first: u64, second: u64) -> io::Result<()> {
     match last {
-        Shown::Nothing => numbers(b"0", &[]),
-        Shown::Done => numbers(b"1", &[]),
-        Shown::Refused(c) => numbers(b"2", &[c.number, c.first, c.second]),
-        Shown::Unasked => numbers(b"3", &[]),
+        Shown::Nothing => numbers(rt, "0", &[])?,
+        Shown::Done => numbers(rt, "1", &[])?,
+        Shown::Refused(c) => numbers(rt, "2", &[c.number, c.first, c.second])?,
+        Shown::Unasked => numbers(rt, "3", &[])?,
         Shown::Asked(k) => {
-            numbers(b"4", &[k]);
-            word(float::float_to_word(point));
+            numbers(rt, "4", &[k])?;
+            word(rt, float::float_to_word(point))?;
         }
         Shown::Reported(o) => {
-            numbers(b"5", &[o.status, o.nit, o.nfev, o.njev, o.drawn]);
-            word(float::float_to_word(o.value));
-            word(float::float_to_word(point));
+            numbers(rt, "5", &[o.status, o.nit, o.nfev, o.njev, o.drawn])?;
+            word(rt, float::float_to_word(o.value))?;
+            word(rt, float::float_to_word(point))?;
         }
-        Shown::Counted(k) => numbers(b"6", &[k]),
+        Shown::Counted(k) => numbers(rt, "6", &[k])?,
         Shown::Entered(k) => {
-            numbers(b"7", &[k]);
-            word(first);
-            word(second);
+            numbers(rt, "7", &[k])?;
+            word(rt, first)?;
+            word(rt, second)?;
         }
-        Shown::Saved(k) => numbers(b"8", &[k]),
+        Shown::Saved(k) => numbers(rt, "8", &[k])?,
     }
-    io::write_all(STDOUT_FILENO, b"\n");
+    println!(rt)
 }
 
 // ---- the scripts in turn
 
 // The last answer of the script of a row, whose calls start at one.
-fn run(first: usize, row: [usize; 4], record: &[u8], bytes: &mut [u8]) {
+fn run<R: Print>(
+    rt: &R,
+    first: usize,
+    row: [usize; 4],
+    record: &[u8],
+    bytes: &mut [u8],
+) -> io::Result<()> {
     let mut o = lbfgsb::no_options();
     o.bounded = true;
     let words = words_from(first);
@@ -273,18 +276,19 @@ fn run(first: usize, row: [usize; 4], record: &[u8], bytes: &mut [u8]) {
         bytes,
     );
     let last = r.last;
-    show(last, point[0], found[0], found[1]);
+    show(rt, last, point[0], found[0], found[1])
 }
 
-fn main() {
+fn main(rt: HostRuntime) -> io::Result<()> {
     let mut saved = [0u8; RECORD];
     let mut first = 0;
     let mut i = 0;
     while i < 16 {
         let row = SCRIPTS[i];
         let record = saved;
-        run(first, row, &record, &mut saved);
+        run(&rt, first, row, &record, &mut saved)?;
         first = after(first, after(row[0], 2) / 3);
         i += 1;
     }
+    Ok(())
 }

@@ -59,7 +59,9 @@ puts_line h x y z = puts_as refl h (puts_both (puts_both x y) z)
 point_more : (x : List Float) (v : Float) → point_lines (x ++ (v ∷ [])) ≡ point_lines x ++ float_line x_word v
 unfolding point_lines
 point_more [] v = append-nil (float_line x_word v)
-point_more (w ∷ x) v = ap (λ (t : List ℕ). float_line x_word w ++ t) (point_more x v) ∙ sym (append_assoc (float_line x_word w) (point_lines x) (float_line x_word v))
+point_more (w ∷ x) v =
+    ap (λ (t : List ℕ). float_line x_word w ++ t) (point_more x v)
+    ∙ sym (append_assoc (float_line x_word w) (point_lines x) (float_line x_word v))
 
 -- a line for each of the first i coordinates
 pub record Pointed (x : List Float) (n at : ℕ) (o : List ℕ) (e : ℕ) (o' : List ℕ) (i : ℕ) : Type 0 where

@@ -1,13 +1,15 @@
 // The text of the report program: what it prints for an input's bytes.
 #![tactic(auto)]
 
-ghost use Rattle.std.specs.Prelude.{◌≡◌, ◌+◌, ◌*◌, ◌≤◌, length, take};
+ghost use Rattle.std.specs.Prelude.{◌≡◌, ◌+◌, ◌*◌, ◌≤◌, length, take, OnOk};
+ghost use Rattle.std.specs.Io.KnownBytes.{Appends};
 ghost use Rattle.definition.specs.Programs.{input_coordinates, input_area, input_log, printed};
 ghost use Rattle.question.specs.Reports.{report_of, written};
 ghost use Rattle.text.specs.Text.{decimal, hexadecimal, x_word, count_line, float_line, point_lines, report_lines, text_of};
 ghost use Rattle.text.specs.Puts.{Puts, printed_as};
 
 use lbfgsb::{Answer, Outcome, Told};
+use std::io::Write;
 
 // ---- bytes and numbers, each from `at` on; where they end
 
@@ -139,4 +141,13 @@ pub fn put_text(input: &[u8], out: &mut [u8]) -> usize
     let mut log = [0u64; input::LOG];
     let mut point = [0.0f64; input::COORDINATES];
     put_read(input, &mut area, &mut log, &mut point, out)
+}
+
+// Writes what the report program prints for an input.
+pub fn write_text<W: Write>(output: &mut W, input: &[u8]) -> std::io::Result<()>
+    ensures { OnOk result (Appends (W.contents output.old) (W.contents output.new) (text_of (printed input.now))) }
+{
+    let mut out = [0u8; 2048];
+    let end = put_text(input, &mut out);
+    output.write_all(&out[0..end])
 }

@@ -2,7 +2,7 @@
 #![tactic(auto)]
 
 use lbfgsb::{Answer, Asked, Fit, Options, Outcome, Reply, Told};
-use libc::STDOUT_FILENO;
+use std::io;
 
 // The area's words for 2 coordinates and the 10 pairs of the default.
 const AREA: usize = 552;
@@ -31,84 +31,90 @@ fn gradient(x: f64, y: f64) -> [u64; 2] {
 
 // ---- what is shown
 
-fn word(x: f64) {
-    io::write_all(STDOUT_FILENO, b" ");
-    io::print_hex(STDOUT_FILENO, float::float_to_word(x), 16);
+fn word<R: Print>(rt: &R, x: f64) -> io::Result<()> {
+    let w = float::float_to_word(x);
+    print!(rt; " {w:016x}")
 }
 
-fn show(label: &[u8], x: f64, y: f64) {
-    io::write_all(STDOUT_FILENO, label);
-    word(x);
-    word(y);
-    io::write_all(STDOUT_FILENO, b"\n");
+fn show<R: Print>(rt: &R, label: &str, x: f64, y: f64) -> io::Result<()> {
+    print!(rt; "{label}")?;
+    word(rt, x)?;
+    word(rt, y)?;
+    println!(rt)
 }
 
-fn count(label: &[u8], n: usize) {
-    io::write_all(STDOUT_FILENO, label);
-    io::print_decimal(STDOUT_FILENO, n as u64);
-    io::write_all(STDOUT_FILENO, b"\n");
+fn count<R: Print>(rt: &R, label: &str, n: usize) -> io::Result<()> {
+    println!(rt; "{label}{n}")
 }
 
-fn show_outcome(o: Outcome, x: f64, y: f64) {
-    count(b"status ", o.status);
-    count(b"nit ", o.nit);
-    count(b"nfev ", o.nfev);
-    count(b"njev ", o.njev);
-    show(b"point", x, y);
+fn show_outcome<R: Print>(rt: &R, o: Outcome, x: f64, y: f64) -> io::Result<()> {
+    count(rt, "status ", o.status)?;
+    count(rt, "nit ", o.nit)?;
+    count(rt, "nfev ", o.nfev)?;
+    count(rt, "njev ", o.njev)?;
+    show(rt, "point", x, y)
 }
 
 // ---- the fit
 
 // The reply to a question of this kind at (x, y).
-fn replied(fit: Fit, area: &mut [f64], log: &mut [u64], kind: usize, x: f64, y: f64) -> Answer {
+fn replied<R: Print>(
+    rt: &R,
+    fit: Fit,
+    area: &mut [f64],
+    log: &mut [u64],
+    kind: usize,
+    x: f64,
+    y: f64,
+) -> io::Result<Answer> {
     let g = gradient(x, y);
     if kind == 1 {
-        show(b"value", x, y);
-        return lbfgsb::reply(fit, area, log, Reply::Value(value(x, y)), &g);
+        show(rt, "value", x, y)?;
+        return Ok(lbfgsb::reply(fit, area, log, Reply::Value(value(x, y)), &g));
     }
     if kind == 2 {
-        show(b"gradient", x, y);
-        return lbfgsb::reply(fit, area, log, Reply::Gradient, &g);
+        show(rt, "gradient", x, y)?;
+        return Ok(lbfgsb::reply(fit, area, log, Reply::Gradient, &g));
     }
-    show(b"notice", x, y);
-    lbfgsb::reply(fit, area, log, Reply::GoOn, &g)
+    show(rt, "notice", x, y)?;
+    Ok(lbfgsb::reply(fit, area, log, Reply::GoOn, &g))
 }
 
 // The fit after one question and its reply; refused where nothing is asked.
-fn turn(fit: Fit, area: &mut [f64], log: &mut [u64]) -> Answer {
+fn turn<R: Print>(rt: &R, fit: Fit, area: &mut [f64], log: &mut [u64]) -> io::Result<Answer> {
     let mut point = [0.0f64; 2];
     let asked = lbfgsb::question(fit, area, &mut point);
     let Asked::Is(kind) = asked else {
-        return lbfgsb::reply(fit, area, log, Reply::Stop, &[0u64; 1]);
+        return Ok(lbfgsb::reply(fit, area, log, Reply::Stop, &[0u64; 1]));
     };
-    replied(fit, area, log, kind, point[0], point[1])
+    replied(rt, fit, area, log, kind, point[0], point[1])
 }
 
 // Question after question until there is none, or a hundred of them.
-fn fitted(first: Fit, area: &mut [f64], log: &mut [u64]) -> Fit {
+fn fitted<R: Print>(rt: &R, first: Fit, area: &mut [f64], log: &mut [u64]) -> io::Result<Fit> {
     let mut fit = first;
     let mut turns = 100usize;
     while turns > 0 {
         turns -= 1;
-        let answer = turn(fit, area, log);
+        let answer = turn(rt, fit, area, log)?;
         let Answer::Kept(next) = answer else {
-            return fit;
+            return Ok(fit);
         };
         fit = next;
     }
-    fit
+    Ok(fit)
 }
 
-fn report(fit: Fit, area: &[f64]) {
+fn report<R: Print>(rt: &R, fit: Fit, area: &[f64]) -> io::Result<()> {
     let mut point = [0.0f64; 2];
     let told = lbfgsb::report(fit, area, &mut point);
     let Told::Is(o) = told else {
-        return;
+        return Ok(());
     };
-    show_outcome(o, point[0], point[1]);
+    show_outcome(rt, o, point[0], point[1])
 }
 
-fn main() {
+fn main(rt: HostRuntime) -> io::Result<()> {
     let mut area = [0.0f64; AREA];
     let mut log = [0u64; LOG];
     let x0 = [-1.0f64, 1.0];
@@ -116,8 +122,8 @@ fn main() {
     let upper = [0.5f64, 2.0];
     let opened = lbfgsb::start(lbfgsb::empty(), &mut area, options(), &x0, &lower, &upper);
     let Answer::Kept(first) = opened else {
-        return;
+        return Ok(());
     };
-    let fit = fitted(first, &mut area, &mut log);
-    report(fit, &area);
+    let fit = fitted(&rt, first, &mut area, &mut log)?;
+    report(&rt, fit, &area)
 }

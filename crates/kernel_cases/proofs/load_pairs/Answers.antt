@@ -1,0 +1,7 @@
+-- `kernel_cases::load_pairs` is safe: each vector of the pairs has room in the area. Assumes nothing.
+use Rattle.std.proofs.Common.{arith}
+use Rattle.compact.proofs.Laws.{vector_room}
+use Rattle.kernel_cases.proofs.load_pairs.Goals as goal
+
+pub load-at-requires : goal.load-at-requires
+load-at-requires c = omega (arith, vector_room c.loop-p.p c.requires (omega arith))
