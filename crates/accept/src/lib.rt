@@ -55,7 +55,7 @@ pub fn check_start(
 // The fit of a setup that passed, at its first question: no entry is in the log.
 pub fn opened(options: Options, area: &mut [f64], x0: &[f64], lower: &[f64], upper: &[f64]) -> Fit
     requires { let s = setup_in options x0.now lower.now upper.now in
-        (validate s then check_area (record { area = length area.now; log = 0 }) s) ≡ none }
+        (validate s then check_area (record { area = length area.old; log = 0 }) s) ≡ none }
     ensures { (l : List ℕ)
         → Held (words result area.new l) (opened_book (setup_in options x0.now lower.now upper.now)) }
 {

@@ -33,10 +33,10 @@ words_at a n i q = word a (q * n + i)
 -- ---- the named vectors, then those of the pairs and the columns
 
 -- Vectors 0 to 7 and the pairs stay from call to call. The others of the first sixteen:
---   8   vector_velocity, then vector_step, then vector_target      scratch
---   9   vector_displacement                          scratch
---   10  vector_active, then vector_cauchy                   scratch
---   11  vector_product_d, then vector_product_z               scratch
+--   8   vector_velocity, then vector_step, then vector_target   scratch
+--   9   vector_displacement                                    scratch
+--   10  vector_active, then vector_cauchy                      scratch
+--   11  vector_product_d, then vector_product_z                scratch
 --   12 to 15  free: no function writes them
 -- `area/src` says who writes and who reads last where two share a place.
 
@@ -76,7 +76,7 @@ vector_displacement = 9
 abbrev pub vector_active : ℕ
 vector_active = 10
 
--- the vector_cauchy point and the target
+-- the Cauchy point and the target
 abbrev pub vector_cauchy : ℕ
 vector_cauchy = 10
 

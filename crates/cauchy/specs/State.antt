@@ -117,7 +117,7 @@ pub record Begins (n : ℕ) (a : Vecs) (r : Path) (b : Vecs) : Type 0 where
   pub is : path_of r b ≡ D.path_start n (bounds_of a) (a vector_x) (a vector_g)
   pub kept : ScratchOnly a b
 
--- the vector_cauchy point of b, where ok says that there is one
+-- the Cauchy point of b, where ok says that there is one
 pub record Points (F : Option (List Float)) (a : Vecs) (ok : Bool) (b : Vecs) : Type 0 where
   pub is : given ok (b vector_cauchy) ≡ F
   pub kept : ScratchOnly a b

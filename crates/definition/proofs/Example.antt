@@ -19,8 +19,8 @@ refused number a b = Answer.refused (record { number = number; first = a; second
 abbrev lengths : ℕ → ℕ → Lengths
 lengths area log = record { area = area; log = log }
 
-abbrev value_at_lem : Float → Option Question
-value_at_lem x = some (record { kind = 1; point = x ∷ [] })
+abbrev value_at : Float → Option Question
+value_at x = some (record { kind = 1; point = x ∷ [] })
 
 abbrev fitted : Book
 fitted = book parabola parabola_replies
@@ -53,13 +53,13 @@ script =
     -- a fit is opened
     ∷ (Call.start parabola gives Answer.done)
     ∷ (Call.question 0 gives refused 19 1 0)
-    ∷ (Call.question 1 gives Answer.asked (value_at_lem four))
+    ∷ (Call.question 1 gives Answer.asked (value_at four))
     ∷ (Call.report 1 gives refused 15 0 0)
     ∷ (Call.reply Reply.go_on gives refused 13 0 0)
     ∷ (Call.reply (Reply.value (to_word eight)) gives Answer.done)
     ∷ (Call.reply (Reply.gradient (0 ∷ 0 ∷ [])) gives refused 14 1 2)
     ∷ (Call.reply (Reply.gradient (to_word four ∷ [])) gives Answer.done)
-    ∷ (Call.question 1 gives Answer.asked (value_at_lem zero64))
+    ∷ (Call.question 1 gives Answer.asked (value_at zero64))
     -- a reply is taken back and given anew
     ∷ (Call.reply (Reply.value (to_word one64)) gives Answer.done)
     ∷ (Call.take_back 4 gives refused 16 0 0)

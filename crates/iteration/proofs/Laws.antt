@@ -68,7 +68,7 @@ ends_from_lem : (t : Terms) (c : Compact) (h : State) {o : Option (List Float)} 
 unfolding ends_of
 ends_from_lem t c h e = ap (λ (o : Option (List Float)). o and_then ends_from t c h) e
 
--- no vector_cauchy point
+-- no Cauchy point
 pub no_point : {h : Shape} {size : ℕ} {theta : Float} {a b d : Vecs} {ok : Bool}
     → Sound h size → PairsKept h a b → Points (point_at h theta b) b ok d → ok ≡ false → Offers h theta a false d
 no_point {h} {size} {theta} {a} {b} {d} s k p e = record {
@@ -78,7 +78,7 @@ no_point {h} {size} {theta} {a} {b} {d} s k p e = record {
   kept = kept_scratch (kept_laid k) p.kept;
 }
 
--- a vector_cauchy point, and what the minimum over its free coordinates gives
+-- a Cauchy point, and what the minimum over its free coordinates gives
 pub from_point : {h : Shape} {size : ℕ} {theta : Float} {a b d e : Vecs} {ok r : Bool}
     → Sound h size → PairsKept h a b → Points (point_at h theta b) b ok d → ok ≡ true → Minimizes (minimum_at h theta d) d r e → Offers h theta a r e
 from_point {h} {size} {theta} {a} {b} {d} s k p o m =

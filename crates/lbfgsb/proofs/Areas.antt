@@ -144,7 +144,7 @@ module _ (h : Shape) (ring : h.oldest < h.m) (most : h.pairs ≤ h.m) where
 
         go : (s t u : Bool) → ltb q 8 ≡ s → ltb q 16 ≡ t → ltb q (first_column h.m) ≡ u → ScratchVector h q ⊎ (a q ≡ b q)
         go true t u e f g = inr (same.low q (ltb-true q 8 e))
-        go false true u e f g = inl (ScratchVector.between (ltb-false q 8 e) (ltb-true q 16 f))
+        go false true u e f g = inl (ScratchVector.between (omega (arith, ltb-false q 8 e)) (ltb-true q 16 f))
         go false false true e f g = ringed (half (q - 16)) (ltb-false q 16 f) (ltb-true q (first_column h.m) g)
         go false false false e f g = inl (ScratchVector.column (ltb-false q (first_column h.m) g) m)
 

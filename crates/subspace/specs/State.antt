@@ -1,4 +1,4 @@
--- The minimum over the free coordinates of the vector_cauchy point, and the direction to the chosen end, read off the area.
+-- The minimum over the free coordinates of the Cauchy point, and the direction to the chosen end, read off the area.
 use Rattle.std.specs.Prelude.{ℕ, ◌-◌, ◌*◌, ◌<◌, ◌≡◌, Bool, cond, ◌&&◌, List, ◌++◌, length, replicate, Float}
 use Rattle.std.proofs.Math.Option.{Option, some}
 use Rattle.std.specs.Float.Ieee as Ieee
@@ -137,7 +137,7 @@ on_free_at h theta v = residual_at h theta v and_then on_free h.n (bounds_of v) 
 abbrev pub minimum_at : Shape → Float → Vecs → Option (List Float)
 minimum_at h theta v = primal_minimize h.n (bounds_of v) (compact_of h theta v) (v vector_x) (v vector_g) (v vector_cauchy)
 
--- vector p of b, where ok says that there is one; the vector_cauchy point is kept, and only scratch is touched
+-- vector p of b, where ok says that there is one; the Cauchy point is kept, and only scratch is touched
 pub record Makes (p : ℕ) (F : Option (List Float)) (a : Vecs) (ok : Bool) (b : Vecs) : Type 0 where
   pub is : given ok (b p) ≡ F
   pub cauchy : b vector_cauchy ≡ a vector_cauchy
