@@ -4,6 +4,5 @@ use Rattle.report.proofs.report.Goals as goal
 
 pub returns : goal.returns
 returns g c =
-    let b = rw (c.take.ensures.limit, c.take.ensures.inner, c.new-bytes.ensures.items) at c.in_ok-read_to_end.ensures.bytes in
-    let w = rw c.deref.ensures.value at c.write_text.ensures in
-    reported _ (g.I.Read.remaining c.args.input) _ _ _ b w
+    reported _ (g.I.Read.remaining c.args.input.now) c.read_full.new.buffer c.in_ok-size.size _ _ c.read_full.auto.buffer
+    c.in_ok-size.ensures.bytes c.write_text.ensures
