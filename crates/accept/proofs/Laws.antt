@@ -3,7 +3,7 @@ use Prim.Native.Nat.{ℕ, suc, ◌+◌, ◌≤◌, ◌<◌}
 use native.Mathlib.Omega.{arith}
 use mathlib.Core.Path.{◌≡◌, refl, sym, ap, ◌∙◌}
 use mathlib.Core.List.{List, [], ◌∷◌, ◌++◌}
-use mathlib.Core.Option.{none}
+use Rattle.std.specs.Prelude.{None}
 use native.Mathlib.Numerals.{add-one}
 use lib.ListN.{length, take, drop, set, get_or, length-append, length-set}
 use lib.Seq.{take_at, take-length, length-take-le, sets-eq, length-sets, paste, paste-zero, paste-suc}
@@ -73,7 +73,7 @@ written_length at ws l h = ap length (sym (sets-eq ws l at h)) ∙ length-sets l
 -- ---- one more reply
 
 pub reached_advanced : {r : M.Reply} {t f : Fit} {a b : List Float} {k : Book}
-    → Reached t a k → check_due (machine_of t a) r ≡ none → length b ≡ length a → Advances r t a f b → Reached f b (with_reply r k)
+    → Reached t a k → check_due (machine_of t a) r ≡ None → length b ≡ length a → Advances r t a f b → Reached f b (with_reply r k)
 unfolding run
 reached_advanced {r} {t} {f} {a} {b} {k} h d z v = record {
   accepted = h.accepted;
@@ -89,7 +89,7 @@ reached_advanced {r} {t} {f} {a} {b} {k} h d z v = record {
 
 -- it is held, its entry written into the log
 pub held_advanced : {r : M.Reply} {t f : Fit} {a b : List Float} {l : List ℕ} {k : Book}
-    → Held (words t a l) k → check_due (machine_of t a) r ≡ none → t.extra.words + length (entry_words r) ≤ length l → length b ≡ length a → Advances r t a f b
+    → Held (words t a l) k → check_due (machine_of t a) r ≡ None → t.extra.words + length (entry_words r) ≤ length l → length b ≡ length a → Advances r t a f b
     → Held (words f b (written t.extra.words (entry_words r) l)) (with_reply r k)
 unfolding log_words
 held_advanced {r} {t} {f} {a} {b} {l} h d w z v =

@@ -4,7 +4,7 @@ use native.Mathlib.Omega.{arith}
 use mathlib.Core.Path.{◌≡◌, refl, sym, ap, ◌∙◌}
 use mathlib.Core.Bool.{true, not, false≢true}
 use mathlib.Core.List.{List, map}
-use mathlib.Core.Option.{none}
+use Rattle.std.specs.Prelude.{None}
 use borrow.Author.Tests.{lt-ltb, le-ltb, ltb-false, ne_eqb, eqb-true, not-false}
 use lib.Dec.{eqb, ltb}
 use lib.ListN.{length, take, drop, replicate, length-replicate}
@@ -25,8 +25,7 @@ use Rattle.fit.specs.declared.Extra.{Extra}
 use Rattle.fit.specs.declared.Fit.{Fit}
 use Rattle.fit.proofs.Laws.{put}
 use Rattle.problem.specs.Setups.{check_of}
-use Rattle.problem.specs.declared.Checked.{Checked}
-use Rattle.problem.specs.declared.Checked.TheVariants.{Passed, Refused}
+use Rattle.std.specs.Prelude.{Result, Ok, Err}
 use Rattle.problem.specs.declared.Options.{Options}
 use Rattle.problem.specs.declared.Refusal.{Refusal}
 use Rattle.opening.specs.Opened.{setup_at}
@@ -40,13 +39,14 @@ use Rattle.held.proofs.Test.{marked_machine}
 use Rattle.driver.proofs.Steps.{DueSaid, due_then}
 use Rattle.driver.specs.Replies.{replied}
 use Rattle.driver.proofs.Answers.{terms_stay}
-use Rattle.accept.specs.Moves.{entry_kind, stored, check_said, Advances}
+use Rattle.driver.specs.Replies.{entry_kind}
+use Rattle.accept.specs.Moves.{stored, check_said, Advances}
 use Rattle.accept.proofs.Checks.{passed, first_refuses, rest_decides}
 use Rattle.held.proofs.Laws.{setup_same, marked_setup, marks_saved}
 
 -- ---- 14: the length of a gradient
 
-pub no_length : (n : ℕ) (r : Reply) (ws : List ℕ) → (entry_kind r ≡ 2 → ⊥) → none ≡ check_length n (replied r ws)
+pub no_length : (n : ℕ) (r : Reply) (ws : List ℕ) → (entry_kind r ≡ 2 → ⊥) → None ≡ check_length n (replied r ws)
 no_length n (R.Value v) ws h = refl
 no_length n R.Gradient ws h = absurd (h refl)
 no_length n R.NotSupplied ws h = refl
@@ -63,7 +63,7 @@ wrong_length n R.Stop ws e h = absurd (omega arith)
 wrong_length n R.Failure ws e h = absurd (omega arith)
 
 -- a gradient whose length passed has n words
-pub length_passed : (n : ℕ) (r : Reply) (ws : List ℕ) → check_length n (replied r ws) ≡ none → entry_kind r ≡ 2 → length ws ≡ n
+pub length_passed : (n : ℕ) (r : Reply) (ws : List ℕ) → check_length n (replied r ws) ≡ None → entry_kind r ≡ 2 → length ws ≡ n
 length_passed n (R.Value v) ws e k = absurd (omega arith)
 length_passed n R.Gradient ws e k = eqb-true (length ws) n (not-false (eqb (length ws) n) (test_failed (not (eqb (length ws) n)) _ e))
 length_passed n R.NotSupplied ws e k = absurd (omega arith)
@@ -71,7 +71,7 @@ length_passed n R.GoOn ws e k = absurd (omega arith)
 length_passed n R.Stop ws e k = absurd (omega arith)
 length_passed n R.Failure ws e k = absurd (omega arith)
 
-pub due_long : (t : Fit) (a : List Float) (r : Reply) (ws : List ℕ) → check_due (machine_of t a) (replied r ws) ≡ none → entry_kind r ≡ 2 → length ws ≡ t.shape.n
+pub due_long : (t : Fit) (a : List Float) (r : Reply) (ws : List ℕ) → check_due (machine_of t a) (replied r ws) ≡ None → entry_kind r ≡ 2 → length ws ≡ t.shape.n
 due_long t a r ws e =
     length_passed t.shape.n r ws
     (both_passed (when (not (takes (machine_of t a) (replied r ws))) (refuse 13 0 0)) (check_length t.shape.n (replied r ws)) e).1
@@ -99,13 +99,13 @@ entry_few n R.Failure h = omega arith
 pub no_room : {k : Check} (room words length : ℕ) → k ≡ refuse 12 0 0 → room < words + length → k ≡ when (ltb room (words + length)) (refuse 12 0 0)
 no_room room words length e h = e ∙ rw (lt-ltb room (words + length) h) refl
 
-pub some_room : (room words length : ℕ) → words + length ≤ room → none ≡ when (ltb room (words + length)) (refuse 12 0 0)
+pub some_room : (room words length : ℕ) → words + length ≤ room → None ≡ when (ltb room (words + length)) (refuse 12 0 0)
 some_room room words length h = rw (le-ltb room (words + length) h) refl
 
 -- ---- the whole check
 
 -- what `check_due` says, and with it the length
-module _ (t : Fit) (a : List Float) (r : Reply) (ws : List ℕ) (c : Checked) (said : DueSaid t r c) where
+module _ (t : Fit) (a : List Float) (r : Reply) (ws : List ℕ) (c : Result Unit Refusal) (said : DueSaid t r c) where
   abbrev any : List ℕ
   any = replicate t.shape.n 0
 
@@ -115,15 +115,15 @@ module _ (t : Fit) (a : List Float) (r : Reply) (ws : List ℕ) (c : Checked) (s
   then_length : (check_due (machine_of t a) (replied r any) then check_length t.shape.n (replied r ws)) ≡ check_due (machine_of t a) (replied r ws)
   then_length = due_then (machine_of t a) r ws any (length-replicate t.shape.n 0)
 
-  pub said_undue : {q : Refusal} → c ≡ Refused q → check_of c ≡ check_due (machine_of t a) (replied r ws)
+  pub said_undue : {q : Refusal} → c ≡ Err q → check_of c ≡ check_due (machine_of t a) (replied r ws)
   said_undue e = first_refuses _ e said_any ∙ then_length
 
-  pub said_due : c ≡ Passed → check_length t.shape.n (replied r ws) ≡ check_due (machine_of t a) (replied r ws)
+  pub said_due : {u : Unit} → c ≡ Ok u → check_length t.shape.n (replied r ws) ≡ check_due (machine_of t a) (replied r ws)
   said_due e = rest_decides _ (passed e said_any) ∙ then_length
 
 -- the check passed: the reply is due, and its entry has room
-pub said_passed : (t : Fit) (a : List Float) (l : List ℕ) (r : M.Reply) → check_said t a (length l) r ≡ none
-    → (check_due (machine_of t a) r ≡ none) × (t.extra.words + length (entry_words r) ≤ length l)
+pub said_passed : (t : Fit) (a : List Float) (l : List ℕ) (r : M.Reply) → check_said t a (length l) r ≡ None
+    → (check_due (machine_of t a) r ≡ None) × (t.extra.words + length (entry_words r) ≤ length l)
 said_passed t a l r e =
     let p = both_passed (check_due (machine_of t a) r) (when (ltb (length l) (t.extra.words + length (entry_words r))) (refuse 12 0 0)) e in
     (p.0, ltb-false (length l) _ (test_failed (ltb (length l) (t.extra.words + length (entry_words r))) _ p.1))
@@ -182,7 +182,7 @@ said_answer t v R.Failure ws h = refl
 
 -- t with the area a, the reply's words stored (b), advanced (f with d), marked (e) and counted
 pub advances : (t : Fit) (a b : List Float) (r : Reply) (ws : List ℕ) (f : Fit) (d e : List Float) (k : ℕ)
-    → Sound t.shape (length a) → M.InRange (phase_of t.phase) t.shape.n → check_due (machine_of t a) (replied r ws) ≡ none
+    → Sound t.shape (length a) → M.InRange (phase_of t.phase) t.shape.n → check_due (machine_of t a) (replied r ws) ≡ None
     → view b t.shape.n ≡ stored r ws (view a t.shape.n)
     → Steps (advanced r) t b f d → length d ≡ length a → Marks f.shape d e → k ≡ length (entry_words (replied r ws))
     → Advances (replied r ws) t a (with_extra (more_kept f.extra k) f) e

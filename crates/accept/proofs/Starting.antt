@@ -3,7 +3,7 @@ use Prim.Native.Nat.{ℕ}
 use native.Mathlib.Omega.{arith}
 use mathlib.Core.Path.{◌≡◌, refl}
 use mathlib.Core.List.{List}
-use mathlib.Core.Option.{none}
+use Rattle.std.specs.Prelude.{None}
 use borrow.Author.Tests.{ltb-false}
 use lib.Dec.{ltb}
 use lib.ListN.{length}
@@ -25,7 +25,7 @@ use Rattle.held.specs.Words.{words, Held}
 
 -- what the checks of a setup leave to the opening
 pub start_room : (o : Options) (x0 l u : List Float) (size k : ℕ)
-    → (validate (setup_in o x0 l u) then check_area (record { area = size; log = k }) (setup_in o x0 l u)) ≡ none
+    → (validate (setup_in o x0 l u) then check_area (record { area = size; log = k }) (setup_in o x0 l u)) ≡ None
     → Room o (length x0) size × Fits o (length x0) l u
 start_room o x0 l u size k e =
     let s = setup_in o x0 l u in
@@ -38,7 +38,7 @@ start_room o x0 l u size k e =
 
 -- the fit just opened
 pub start_reached : (s : P.Setup) (o : Options) (n k : ℕ) (a b : List Float) (t : Fit)
-    → (validate s then check_area (record { area = length a; log = k }) s) ≡ none → Opened o n s a t b → Reached t b (opened_book s)
+    → (validate s then check_area (record { area = length a; log = k }) s) ≡ None → Opened o n s a t b → Reached t b (opened_book s)
 start_reached s o n k a b t e h =
     let p = both_passed (validate s) (check_area (record { area = length a; log = k }) s) e in
     let room = ltb-false (length a) (area_needed s) (test_failed (ltb (length a) (area_needed s)) _ p.1) in

@@ -1,9 +1,9 @@
 -- What the parts of a reply do: the check, the entry in the log, the fit advanced and counted.
-use Rattle.std.specs.Prelude.{ℕ, ◌+◌, ◌≡◌, true, List, [], ◌++◌, map, ltb, length, take, drop, Float}
+use Rattle.std.specs.Prelude.{ℕ, ◌+◌, ◌≡◌, true, List, ◌++◌, map, ltb, length, take, drop, Float}
 use Rattle.definition.specs.Number.{to_float}
 use Rattle.definition.specs.Problem.{Check, refuse, when, ◌then◌}
 use Rattle.definition.specs.Machine as M
-use Rattle.definition.specs.Machine.{reply_kind, check_due}
+use Rattle.definition.specs.Machine.{check_due}
 use Rattle.definition.specs.Driver.{answer}
 use Rattle.definition.specs.Log.{entry_words}
 use Rattle.area.specs.Area.{Vecs, view, upd, Saved, vector_trial_gradient}
@@ -15,11 +15,6 @@ use Rattle.opening.specs.Opened.{setup_at}
 use Rattle.held.specs.Test.{marked}
 use Rattle.driver.specs.declared.Reply.{Reply}
 use Rattle.driver.specs.declared.Reply.TheVariants as R
-use Rattle.driver.specs.Replies.{replied}
-
--- the kind of a reply, whatever words it brings
-abbrev pub entry_kind : Reply → ℕ
-entry_kind r = reply_kind (replied r [])
 
 -- ws in place of the words from `at` on
 abbrev pub written : ℕ → List ℕ → List ℕ → List ℕ

@@ -2,130 +2,96 @@
 #![tactic(auto)]
 
 ghost use Rattle.std.specs.Prelude.{◌≡◌, true, List, ℕ, ◌+◌, ◌-◌, ◌*◌, ◌≤◌, ltb, Float, length};
-ghost use Rattle.std.proofs.Math.Option.{none};
+ghost use Rattle.std.specs.Prelude.{None};
 ghost use Rattle.definition.specs.Problem.{refuse, when, ◌then◌, validate, most_coordinates, most_pairs, area_words};
 ghost use Rattle.definition.specs.Machine.{check_length, check_due};
 ghost use Rattle.definition.specs.Log.{entry_words};
 ghost use Rattle.definition.specs.Book.{opened_book};
 ghost use Rattle.definition.specs.Record.{check_area};
 ghost use Rattle.area.specs.Area.{view, first_pair};
-ghost use Rattle.problem.specs.Setups.{setup_in, places_in, check_of};
+ghost use Rattle.problem.specs.Setups.{setup_of, places_in, check_of};
 ghost use Rattle.fit.specs.State.{machine_of};
+ghost use Rattle.record.specs.Records.{entry_size};
 ghost use Rattle.held.specs.Test.{is_ready};
-ghost use Rattle.accept.specs.Moves.{entry_kind, written, stored, check_said, Advances};
-ghost use Rattle.driver.specs.Replies.{replied};
+ghost use Rattle.driver.specs.Replies.{replied, entry_kind};
+ghost use Rattle.accept.specs.Moves.{written, stored, check_said, Advances};
 ghost use Rattle.held.specs.Words.{words, Held};
 
 use driver::Reply;
 use fit::Fit;
-use problem::{Checked, Options};
+use problem::{Options, Refusal, Setup};
 
 // ---- start
 
 // The area is too short for the setup.
-fn check_area(options: Options, n: usize, size: usize) -> Checked
+fn check_area(options: Options, n: usize, size: usize) -> Result<(), Refusal>
     requires { (n ≤ most_coordinates) × (places_in options ≤ most_pairs) }
     ensures { let k = area_words n (places_in options) in check_of result ≡ when (ltb size k) (refuse 11 k 0) }
 {
-    let needed = area::words(n, problem::places(options));
+    let needed = area::words(n, options.places());
     if size < needed {
-        return problem::refused(11, needed, 0);
+        return Err(Refusal::AreaShort { needed });
     }
-    Checked::Passed
+    Ok(())
 }
 
 // What is wrong with a setup, and then with the area.
-pub fn check_start(
-    options: Options,
-    x0: &[f64],
-    lower: &[f64],
-    upper: &[f64],
-    size: usize,
-) -> Checked
-    ensures { let s = setup_in options x0.now lower.now upper.now in
+pub fn check_start(setup: Setup, size: usize) -> Result<(), Refusal>
+    ensures { let s = setup_of setup.entry in
         (l : ℕ) → check_of result ≡ (validate s then check_area (record { area = size; log = l }) s) }
 {
-    let rows = problem::validate(options, x0, lower, upper);
-    let Checked::Passed = rows else {
-        return rows;
-    };
-    check_area(options, x0.len(), size)
+    setup.validate()?;
+    check_area(setup.options, setup.x0.len(), size)
 }
 
 // The fit of a setup that passed, at its first question: no entry is in the log.
-pub fn opened(options: Options, area: &mut [f64], x0: &[f64], lower: &[f64], upper: &[f64]) -> Fit
-    requires { let s = setup_in options x0.now lower.now upper.now in
-        (validate s then check_area (record { area = length area.old; log = 0 }) s) ≡ none }
-    ensures { (l : List ℕ)
-        → Held (words result area.new l) (opened_book (setup_in options x0.now lower.now upper.now)) }
+pub fn opened(setup: Setup, area: &mut [f64]) -> Fit
+    requires { let s = setup_of setup in (validate s then check_area (record { area = length area.old; log = 0 }) s) ≡ None }
+    ensures { (l : List ℕ) → Held (words result area.new l) (opened_book (setup_of setup.entry)) }
 {
-    let fit = opening::begin(options, area, x0, lower, upper);
-    let shape = fit.shape;
-    held::mark(area, shape);
+    let fit = opening::begin(setup, area);
+    held::mark(area, fit.shape);
     fit
 }
 
 // ---- reply
 
-// The kind of a reply: the first word of its entry in the log.
-fn kind_of(reply: Reply) -> u64
-    ensures { result ≡ entry_kind reply }
+// 14 for a gradient that is not of n words.
+fn check_length(reply: Reply, found: usize, n: usize) -> Result<(), Refusal>
+    ensures { (ws : List ℕ) → length ws ≡ found → check_of result ≡ check_length n (replied reply ws) }
 {
     match reply {
-        Reply::Value(_) => 1,
-        Reply::Gradient => 2,
-        Reply::NotSupplied => 3,
-        Reply::GoOn => 4,
-        Reply::Stop => 5,
-        Reply::Failure => 6,
+        Reply::Gradient if found != n => Err(Refusal::GradientLength { expected: n, found }),
+        _ => Ok(()),
     }
-}
-
-// 14 for a gradient that is not of n words.
-fn check_length(reply: Reply, gradient: usize, n: usize) -> Checked
-    ensures { (ws : List ℕ) → length ws ≡ gradient → check_of result ≡ check_length n (replied reply ws) }
-{
-    if kind_of(reply) != 2 {
-        return Checked::Passed;
-    }
-    if gradient != n {
-        return problem::refused(14, n, gradient);
-    }
-    Checked::Passed
 }
 
 // 12 where a log of `room` words has `words` of them, and none for `length` more.
-fn check_room(words: usize, length: usize, room: usize) -> Checked
+fn check_room(words: usize, length: usize, room: usize) -> Result<(), Refusal>
     ensures { check_of result ≡ when (ltb room (words + length)) (refuse 12 0 0) }
 {
-    if room < words {
-        return problem::refused(12, 0, 0);
+    if room < words || room - words < length {
+        return Err(Refusal::LogShort);
     }
-    if room - words < length {
-        return problem::refused(12, 0, 0);
-    }
-    Checked::Passed
+    Ok(())
+}
+
+// The words of a reply's entry.
+fn entry_length(reply: Reply, n: usize) -> usize
+    requires { n ≤ most_coordinates }
+    ensures { result ≡ entry_size (entry_kind reply) n }
+{
+    record::entry_length(reply.kind(), n).unwrap()
 }
 
 // 13, 14 and 12 for a reply with the gradient's words beside it.
-pub fn check_reply(fit: Fit, reply: Reply, gradient: usize, room: usize) -> Checked
+pub fn check_reply(fit: Fit, reply: Reply, gradient: usize, room: usize) -> Result<(), Refusal>
     requires { fit.shape.n ≤ most_coordinates }
     ensures { (a : List Float) (ws : List ℕ) → length ws ≡ gradient → check_of result ≡ check_said fit a room (replied reply ws) }
 {
-    let due = driver::check_due(fit, reply);
-    let Checked::Passed = due else {
-        return due;
-    };
-    let n = fit.shape.n;
-    let sized = check_length(reply, gradient, n);
-    let Checked::Passed = sized else {
-        return sized;
-    };
-    check_room(
-        fit.extra.words,
-        record::entry_length(kind_of(reply), n),
-        room,
-    )
+    driver::check_due(fit, reply)?;
+    check_length(reply, gradient, fit.shape.n)?;
+    check_room(fit.extra.words, entry_length(reply, fit.shape.n), room)
 }
 
 // The words of a gradient into the log.
@@ -133,11 +99,7 @@ fn log_gradient(log: &mut [u64], at: usize, words: &[u64])
     requires { at + length words.now ≤ length log.old }
     ensures { log.new ≡ written at words.now log.old }
 {
-    let mut i = 0;
-    while i < words.len() {
-        log[at + i] = words[i];
-        i += 1;
-    }
+    log[at..at + words.len()].copy_from_slice(words);
 }
 
 // The entry of a reply into the log.
@@ -145,16 +107,11 @@ fn log_entry(log: &mut [u64], at: usize, reply: Reply, gradient: &[u64])
     requires { at + length (entry_words (replied reply gradient.now)) ≤ length log.old }
     ensures { log.new ≡ written at (entry_words (replied reply gradient.now)) log.old }
 {
-    log[at] = kind_of(reply);
+    log[at] = reply.kind();
     match reply {
-        Reply::Value(word) => {
-            log[at + 1] = word;
-        }
+        Reply::Value(word) => log[at + 1] = word,
         Reply::Gradient => log_gradient(log, at + 1, gradient),
-        Reply::NotSupplied => {}
-        Reply::GoOn => {}
-        Reply::Stop => {}
-        Reply::Failure => {}
+        _ => {}
     }
 }
 
@@ -163,28 +120,26 @@ fn put_gradient(area: &mut [f64], n: usize, reply: Reply, gradient: &[u64])
     requires { (first_pair * n ≤ length area.old) × (entry_kind reply ≡ 2 → length gradient.now ≡ n) }
     ensures { view area.new n ≡ stored reply gradient.now (view area.old n) }
 {
-    if kind_of(reply) != 2 {
-        return;
+    if let Reply::Gradient = reply {
+        area::store_gradient(area, n, gradient, 0);
     }
-    area::store_gradient(area, n, gradient, 0);
 }
 
 // The fit advanced by a reply that is due.
 fn advanced(fit: Fit, area: &mut [f64], reply: Reply, gradient: &[u64]) -> Fit
-    requires { (is_ready fit (length area.old) ≡ true) × (check_due (machine_of fit area.old) (replied reply gradient.now) ≡ none) }
+    requires { (is_ready fit (length area.old) ≡ true) × (check_due (machine_of fit area.old) (replied reply gradient.now) ≡ None) }
     ensures { Advances (replied reply gradient.now) fit area.old result area.new }
 {
     let n = fit.shape.n;
     put_gradient(area, n, reply, gradient);
     let next = driver::advance(fit, area, reply);
-    let shape = next.shape;
-    held::mark(area, shape);
-    fit::counted(next, record::entry_length(kind_of(reply), n))
+    held::mark(area, next.shape);
+    fit::counted(next, entry_length(reply, n))
 }
 
 // A reply that passed, into the log and into the fit.
 pub fn keep(fit: Fit, area: &mut [f64], log: &mut [u64], reply: Reply, gradient: &[u64]) -> Fit
-    requires { (is_ready fit (length area.old) ≡ true) × (check_said fit area.old (length log.old) (replied reply gradient.now) ≡ none) }
+    requires { (is_ready fit (length area.old) ≡ true) × (check_said fit area.old (length log.old) (replied reply gradient.now) ≡ None) }
     ensures { Advances (replied reply gradient.now) fit area.old result area.new
         × (log.new ≡ written fit.extra.words (entry_words (replied reply gradient.now)) log.old) }
 {

@@ -1,23 +1,31 @@
 -- Laws of `specs/Area.antt`: what a loop over the index makes of the area, and what the vectors are afterwards. Assumes nothing.
 use mathlib.Core.Path.{◌≡◌, refl, sym, ap, ◌∙◌}
-use mathlib.Core.Bool.{Bool, true, false, cond}
+use mathlib.Core.Bool.{Bool, true, false, cond, ◌&&◌}
+use lib.Ieee.Scale.{finite}
 use mathlib.Core.Logic.{◌≢◌, ◌⊎◌, inl, inr, ⊎_elim}
-use mathlib.Core.List.{List, ◌++◌}
+use mathlib.Core.List.{List, [], ◌∷◌, ◌++◌, map}
 use Prim.Native.Nat.{ℕ, zero, suc, ◌+◌, ◌*◌, ◌/◌, ◌%◌, ◌≤◌, ◌<◌, min, ◌-◌}
 use native.Mathlib.Nat.{le_trans, suc-mul, mul-le-mul_right, le_of_suc-le-suc, eq-or-lt_of_le}
 use native.Mathlib.Numerals.{add-one}
 use native.Mathlib.Omega.{arith}
 use lib.Arith.{digits_div, digits_mod}
 use lib.Dec.{eqb, ltb}
-use lib.ListN.{length, take, drop, set, length-set, length-take, length-drop, get_or-append}
+use Rattle.std.proofs.Common.{map-id}
+use lib.ListN.{length, take, drop, set, replicate, length-set, length-take, length-drop, get_or-append}
 use lib.Seq.{get_or-set_same, get_or-set_other, get_or-take, get_or-drop, ext_get_or, length-take-le, get_or-append-add, drop-set-add, take-set-lt}
-use lib.Ieee.{Float, nan}
-use borrow.Author.Count.{below_more}
+use lib.Ieee.{Float, nan, neg, of_bits}
 use borrow.Author.Rules.{rules}
 use borrow.Author.Tests.{eqb-true, eqb-false, ne_eqb, ltb-true, ltb-false}
+use Rattle.std.proofs.lemmas.Iterator.{YieldsList, items_from_drains}
+use Rattle.std.specs.Bool.{⊤, MatchBool}
+use Rattle.std.specs.Iterator.{Drains}
+use Rattle.std.specs.List.{fold, zip, AllWithin, HoldsAt}
 use borrow.Rule.Slice.PartMut.{put_mid, same_len_mid}
-use Rattle.definition.specs.Vector.{tab, word, fold_to}
-use Rattle.area.specs.Area.{part, fill, view, upd, Vecs, rowwise, fold_rows, put_word, loop_to, vector_x0, first_free, ScratchOnly, Saved}
+use Rattle.definition.specs.Number.{plus, times, neg_zero, to_float}
+use Rattle.definition.proofs.Vectors.{length-tab, get_or-tab}
+use Rattle.definition.specs.Vector.{tab, word, fold_to, dot, all_finite}
+use Rattle.std.specs.Prelude.{Option}
+use Rattle.area.specs.Area.{fill_of, part, fill, view, upd, Vecs, rowwise, fold_rows, put_word, vector_x0, first_free, ScratchOnly, Saved}
 
 -- ---- parts and tables
 
@@ -29,20 +37,9 @@ length_part : (a : List Float) (k n : ℕ) → length (part a k n) ≡ min n (le
 unfolding part
 length_part a k n = simp (length-take, length-drop)
 
-length-tab : (n : ℕ) (f : ℕ → Float) → length (tab n f) ≡ n
-unfolding tab
-length-tab zero f = refl
-length-tab (suc n) f = ap suc (length-tab n (λ (i : ℕ). f (suc i)))
-
-word-tab : (n : ℕ) (f : ℕ → Float) (i : ℕ) → i < n → word (tab n f) i ≡ f i
-unfolding tab
-word-tab zero f i h = absurd (omega arith)
-word-tab (suc n) f zero h = refl
-word-tab (suc n) f (suc i) h = word-tab n (λ (i : ℕ). f (suc i)) i (le_of_suc-le-suc h)
-
 tab-word : (n : ℕ) (v : List Float) → length v ≡ n → tab n (word v) ≡ v
 tab-word n v e =
-    ext_get_or nan (tab n (word v)) v (length-tab n (word v) ∙ sym e) (λ k l. word-tab n (word v) k (omega (arith, length-tab n (word v))))
+    ext_get_or nan (tab n (word v)) v (length-tab n (word v) ∙ sym e) (λ k l. get_or-tab n (word v) k nan (omega (arith, length-tab n (word v))))
 
 -- ---- fills
 
@@ -110,7 +107,7 @@ view-fill_at a p n f l q true e =
     (ext_get_or nan (part (fill a (p * n) n f) (p * n) n) (tab n f) (simp (length_part, length-fill, length-tab) (omega arith))
     (λ i h.
     let g : i < n = omega (arith, length_part (fill a (p * n) n f) (p * n) n) in
-    word-part _ _ _ _ g ∙ word-fill_same a (p * n) n f i g l ∙ sym (word-tab n f i g)))
+    word-part _ _ _ _ g ∙ word-fill_same a (p * n) n f i g l ∙ sym (get_or-tab n f i nan g)))
 view-fill_at a p n f l q false e =
     ext_get_or nan (part (fill a (p * n) n f) (q * n) n) (part a (q * n) n) (simp (length_part, length-fill))
     (λ i h.
@@ -165,62 +162,6 @@ pub row_copied : {a : List Float} {n p q : ℕ} {b : List Float} {i : ℕ}
     → Row a n p (λ i w. w q) b i → n ≤ i → q * n + n ≤ length a → view b n ≡ upd (view a n) p (view a n q)
 unfolding rowwise
 row_copied {a} {n} {p} {q} r h l = row_done r h ∙ ap (upd (view a n) p) (tab-word n (view a n q) (length-view a n q l))
-
--- ---- a loop that makes a whole slice b of n words, f i at i
-
-pub record Made (n : ℕ) (f : ℕ → Float) (b : List Float) (i : ℕ) : Type 0 where
-  pub upto : i ≤ n
-  pub long : length b ≡ n
-  pub is : (k : ℕ) → k < i → word b k ≡ f k
-
-pub made_none : {n : ℕ} {f : ℕ → Float} {b : List Float} → length b ≡ n → Made n f b 0
-made_none e = record { upto = omega arith; long = e; is = λ k h. absurd (omega arith) }
-
-pub made_more : {n : ℕ} {f : ℕ → Float} {b : List Float} {i : ℕ} {v : Float} → Made n f b i → i < length b → v ≡ f i → Made n f (set b i v) (i + 1)
-made_more {n} {f} {b} {i} {v} r h e = record {
-  upto = omega (arith, r.long);
-  long = simp length-set r.long;
-  is = below_more (λ (k : ℕ). word (set b i v) k ≡ f k) i
-      (λ k l. get_or-set_other b i k v nan (λ d. omega arith) ∙ r.is k l)
-      (get_or-set_same b i v nan (omega (arith, r.long)) ∙ e);
-}
-
-pub made_done : {n : ℕ} {f : ℕ → Float} {b : List Float} {i : ℕ} → Made n f b i → length b ≤ i → b ≡ tab n f
-made_done {n} {f} {b} {i} r h =
-    ext_get_or nan b (tab n f) (r.long ∙ sym (length-tab n f))
-    (λ k l.
-    let g : k < n = omega (arith, r.long) in
-    r.is k (omega arith) ∙ sym (word-tab n f k g))
-
--- ---- a loop that changes a whole slice a: b is the slice at turn i, and word i becomes f i of word i
-
-pub record Changed (a : List Float) (f : ℕ → Float → Float) (b : List Float) (i : ℕ) : Type 0 where
-  pub upto : i ≤ length a
-  pub long : length b ≡ length a
-  pub is : (k : ℕ) → k < i → word b k ≡ f k (word a k)
-  pub rest : (k : ℕ) → i ≤ k → word b k ≡ word a k
-
-pub changed_none : {a : List Float} {f : ℕ → Float → Float} → Changed a f a 0
-changed_none = record { upto = omega arith; long = refl; is = λ k h. absurd (omega arith); rest = λ k h. refl }
-
-pub changed_more : {a : List Float} {f : ℕ → Float → Float} {b : List Float} {i : ℕ} {v : Float}
-    → Changed a f b i → i < length b → v ≡ f i (word b i) → Changed a f (set b i v) (i + 1)
-changed_more {a} {f} {b} {i} {v} r h e = record {
-  upto = omega (arith, r.long);
-  long = simp length-set r.long;
-  is = below_more (λ (k : ℕ). word (set b i v) k ≡ f k (word a k)) i
-      (λ k l. get_or-set_other b i k v nan (λ d. omega arith) ∙ r.is k l)
-      (get_or-set_same b i v nan h ∙ e ∙ ap (f i) (r.rest i (omega arith)));
-  rest = λ k l. get_or-set_other b i k v nan (λ d. omega arith) ∙ r.rest k (omega arith);
-}
-
-pub changed_done : {a : List Float} {f : ℕ → Float → Float} {b : List Float} {i : ℕ}
-    → Changed a f b i → length b ≤ i → b ≡ tab (length a) (λ (k : ℕ). f k (word a k))
-changed_done {a} {f} {b} {i} r h =
-    ext_get_or nan b (tab (length a) (λ (k : ℕ). f k (word a k))) (r.long ∙ sym (length-tab (length a) (λ (k : ℕ). f k (word a k))))
-    (λ k l.
-    let g : k < length a = omega (arith, r.long) in
-    r.is k (omega arith) ∙ sym (word-tab (length a) (λ (k : ℕ). f k (word a k)) k g))
 
 -- ---- a loop over the index alone: s is what z has become at turn i
 
@@ -328,7 +269,75 @@ put_lent a v p n l e =
     let z : p * n + n - p * n ≡ n = omega arith in
     rw (z, put_fill a v (p * n) n l e) (view-fill a p n (word v) l ∙ ap (upd (view a n) p) (tab-word n v e))
 
--- ---- a loop of any form: one store at word i of vector p, seen in the vectors, and the vectors at turn i
+replicate-tab : (n : ℕ) (v : Float) → replicate n v ≡ tab n (λ (i : ℕ). v)
+unfolding tab
+replicate-tab zero v = refl
+replicate-tab (suc n) v = ap (λ (l : List Float). v ∷ l) (replicate-tab n v)
+
+pub put_filled : (a b : List Float) (p n : ℕ) (v : Float) → p * n + n ≤ length a
+    → b ≡ replicate (length (take (p * n + n - p * n) (drop (p * n) a))) v → view (put_mid (p * n) (p * n + n - p * n) a b) n ≡ fill_of n p v (view a n)
+unfolding fill_of rowwise
+put_filled a b p n v l e =
+    let z : b ≡ tab n (λ (i : ℕ). v) = e ∙ rw (part_lent, length-view a n p l) (replicate-tab n v) in
+    rw (← z) (put_lent a b p n l (ap length z ∙ length-tab n (λ (i : ℕ). v)))
+
+-- ---- two vectors lent, folded place by place
+
+fold_first : {A : Type 0} (n : ℕ) (step : ℕ → A → A) (z : A) → fold_to (suc n) step z ≡ fold_to n (λ (i : ℕ). step (suc i)) (step 0 z)
+unfolding fold_to
+fold_first zero step z = refl
+fold_first (suc n) step z = ap (step (suc n)) (fold_first n step z)
+
+fold_zip : (xs ys : List Float) (z : Float) → length ys ≡ length xs
+    → fold plus z (map (λ (p : Float × Float). times p.0 p.1) (zip xs ys)) ≡ fold_to (length xs) (λ i s. plus s (times (word xs i) (word ys i))) z
+unfolding fold_to
+fold_zip [] [] z e = refl
+fold_zip [] (y ∷ ys) z e = refl
+fold_zip (x ∷ xs) [] z e = absurd (omega arith)
+fold_zip (x ∷ xs) (y ∷ ys) z e =
+    fold_zip xs ys (plus z (times x y)) (omega arith) ∙ sym (fold_first (length xs) (λ i s. plus s (times (word (x ∷ xs) i) (word (y ∷ ys) i))) z)
+
+pub products : (a : List Float) (n p q : ℕ) → p * n + n ≤ length a → q * n + n ≤ length a
+    → fold plus neg_zero (map (λ (r : Float × Float). times r.0 r.1) (zip (view a n p) (view a n q))) ≡ dot n (view a n p) (view a n q)
+products a n p q l m =
+    let e : length (view a n p) ≡ n = length-view a n p l in
+    rw e at (fold_zip (view a n p) (view a n q) neg_zero (length-view a n q m ∙ sym e))
+
+-- what a chain that adds up answers, where it gives the list
+pub summed : {S : Type 0} {steps : S → Option Float → S → Type 0} (r : Float) (s : S) (ys : List Float)
+    → ((xs : List Float) × (⊤ → Drains steps s xs) × (r ≡ fold plus (neg (to_float 0)) xs)) → YieldsList steps (λ x. x) s ys → r ≡ fold plus neg_zero ys
+unfolding neg of_bits
+summed {steps = steps} r s ys h y =
+    let d = h.1 tt in
+    let e : map (λ (x : Float). x) h.0 ≡ ys = items_from_drains {steps = steps} {s = s} h.0 (d.1.0, d.1.1, λ u. (d.0, d.1.2)) y in
+    h.2 ∙ ap (fold plus neg_zero) (sym (map-id h.0) ∙ e)
+
+-- what `all` says of each word, as one fold
+and_false : (b : Bool) → (b && false) ≡ false
+and_false true = refl
+and_false false = refl
+
+fold_true : (P : ℕ → Bool) (n : ℕ) → ((k : ℕ) → k < n → P k ≡ true) → fold_to n (λ i b. b && P i) true ≡ true
+unfolding fold_to
+fold_true P zero h = refl
+fold_true P (suc n) h = rw (fold_true P n (λ k l. h k (omega arith))) (h n (omega arith))
+
+fold_false : (P : ℕ → Bool) (n k : ℕ) → k < n → P k ≡ false → fold_to n (λ i b. b && P i) true ≡ false
+unfolding fold_to
+fold_false P zero k l e = absurd (omega arith)
+fold_false P (suc n) k l e =
+    elim (eq-or-lt_of_le (le_of_suc-le-suc l)) [
+      | inl q ↦ let f : P n ≡ false = rw q at e in rw f (and_false _)
+      | inr q ↦ rw (fold_false P n k q e) refl
+    ]
+
+pub tested : (a : List Float) (p n : ℕ) (r : Bool) → p * n + n ≤ length a
+    → MatchBool r (AllWithin (λ x. finite x ≡ true) (view a n p) 0 (length (view a n p)))
+    ((k : ℕ) × (k < length (view a n p)) × HoldsAt (λ x. finite x ≡ false) (view a n p) k) → r ≡ all_finite n (view a n p)
+tested a p n true l h = sym (fold_true (λ k. finite (word (view a n p) k)) n (λ k j. h k nan (omega arith) (rw (length-view a n p l) j)))
+tested a p n false l h = sym (fold_false (λ k. finite (word (view a n p) k)) n h.0 (rw (length-view a n p l) at h.1) (h.2 nan))
+
+-- ---- one store at word i of vector p, seen in the vectors
 
 view-set_at : (b : List Float) (n p i : ℕ) (v : Float) → i < n → (q : ℕ) (t : Bool) → eqb q p ≡ t
     → part (set b (p * n + i) v) (q * n) n ≡ cond t (set (part b (p * n) n) i v) (part b (q * n) n)
@@ -347,25 +356,6 @@ view-set_at b n p i v h q false e =
 pub view-set : (b : List Float) (n p i : ℕ) (v : Float) → i < n → view (set b (p * n + i) v) n ≡ put_word (view b n) p i v
 unfolding view
 view-set b n p i v h = λ k q. view-set_at b n p i v h q (eqb q p) refl k
-
-pub record Turned (a : List Float) (n : ℕ) (F : ℕ → Vecs → Vecs) (b : List Float) (i : ℕ) : Type 0 where
-  pub upto : i ≤ n
-  pub long : length b ≡ length a
-  pub is : view b n ≡ loop_to i F (view a n)
-
-pub turned_none : {a : List Float} {n : ℕ} {F : ℕ → Vecs → Vecs} → Turned a n F a 0
-unfolding loop_to
-turned_none = record { upto = omega arith; long = refl; is = refl }
-
-pub turned_more : {a : List Float} {n : ℕ} {F : ℕ → Vecs → Vecs} {b : List Float} {i : ℕ} {d : List Float}
-    → Turned a n F b i → i < n → length d ≡ length b → view d n ≡ F i (view b n) → Turned a n F d (i + 1)
-unfolding loop_to
-turned_more {F = F} {i = i} r h l e =
-    record { upto = omega arith; long = l ∙ r.long; is = rw add-one (e ∙ ap (F i) r.is) }
-
-pub turned_done : {a : List Float} {n : ℕ} {F : ℕ → Vecs → Vecs} {b : List Float} {i : ℕ}
-    → Turned a n F b i → n ≤ i → view b n ≡ loop_to n F (view a n)
-turned_done {n = n} {i = i} r h = let e : i ≡ n = omega (arith, r.upto) in rw e at r.is
 
 -- ---- only the scratch vectors change
 
@@ -409,15 +399,10 @@ pub ruleset laws = (
   row_done,
   row_stored,
   row_copied,
-  made_more,
-  made_done,
-  changed_more,
-  changed_done,
   looped_more,
   looped_done,
   fold_more,
   fold_done,
-  turned_done,
   scratch_refl,
   scratch_upd,
   rules,

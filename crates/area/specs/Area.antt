@@ -1,6 +1,6 @@
 -- The working area: a list of floats, in which vector k of n words stands at offset k * n.
 use Rattle.std.specs.Prelude.{◌≡◌, Bool, true, false, cond, List, ℕ, zero, suc, ◌+◌, ◌*◌, ◌≤◌, ◌<◌, eqb, take, drop, set, Float}
-use Rattle.std.proofs.Math.Option.{Option, none, some}
+use Rattle.std.specs.Prelude.{Option, None, Some}
 use Rattle.definition.specs.Vector.{tab, word, fold_to, difference}
 use Rattle.definition.specs.Problem.{Bounds}
 
@@ -147,11 +147,6 @@ rowwise n p g s = upd s p (tab n (λ (i : ℕ). g i (λ (q : ℕ). word (s q) i)
 unfoldable pub fold_rows : {A : Type 0} → A → (ℕ → (ℕ → Float) → A → A) → ℕ → Vecs → A
 fold_rows z h n s = fold_to n (λ (i : ℕ). h i (λ (q : ℕ). word (s q) i)) z
 
--- turns 0 .. k - 1 of a loop
-unfoldable pub loop_to : ℕ → (ℕ → Vecs → Vecs) → Vecs → Vecs
-loop_to zero F s = s
-loop_to (suc k) F s = F k (loop_to k F s)
-
 -- ---- what the functions make
 
 -- p := q
@@ -168,5 +163,5 @@ difference_of n p q r s = upd s p (difference n (s q) (s r))
 
 -- a vector where there is one
 abbrev pub given : Bool → List Float → Option (List Float)
-given true v = some v
-given false v = none
+given true v = Some v
+given false v = None

@@ -1,7 +1,5 @@
-// What the programs that run cases share: words of 64 bits in bytes and in a file, the lowest byte first; lines of counts.
+// What the programs that run cases share: words of 64 bits in bytes and in a file, the lowest byte first.
 #![tactic(auto)]
-
-ghost use Rattle.std.specs.Prelude.{◌≤◌};
 
 use std::fs::File;
 use std::io::{ErrorKind, Read};
@@ -12,10 +10,8 @@ use std::{env, io};
 
 // Word i, and 0 past the end.
 pub fn word(s: &[u8], i: usize) -> u64 {
-    if i < s.len() / 8 {
-        return record::word_at(s, 8 * i);
-    }
-    0
+    let (words, _) = s.as_chunks::<8>();
+    words.get(i).map_or(0, |bytes| u64::from_le_bytes(*bytes))
 }
 
 pub fn size(s: &[u8], i: usize) -> usize {
@@ -26,21 +22,9 @@ pub fn float(s: &[u8], i: usize) -> f64 {
     float::word_to_float(word(s, i))
 }
 
-// The word j places after word i.
-pub fn after(i: usize, j: usize) -> usize {
-    std::num::wrapping_add_usize(i, j)
-}
-
-// The lesser number, the most that a part of b elements may have.
-pub fn least(a: usize, b: usize) -> usize
-    ensures { result ≤ b }
-{
-    if a < b { a } else { b }
-}
-
 // Whether k is word i.
 pub fn is_count(s: &[u8], i: usize, k: usize) -> bool {
-    k as u64 == word(s, i)
+    size(s, i) == k
 }
 
 // Whether x has the bits of word i. All NaNs are one word.
@@ -48,37 +32,33 @@ pub fn is_float(s: &[u8], i: usize, x: f64) -> bool {
     float::float_to_word(x) == word(s, i)
 }
 
-// Whether the first n places of x have the bits of the words from i on.
+// Whether x has n places or more, and the first n have the bits of the words from i on.
 pub fn are_floats(s: &[u8], i: usize, n: usize, x: &[f64]) -> bool {
-    if n > x.len() {
+    let Some(x) = x.get(..n) else {
         return false;
+    };
+    x.iter()
+        .enumerate()
+        .all(|(j, v)| is_float(s, i.wrapping_add(j), *v))
+}
+
+// The words from i on, as `made` makes them, as many as x has room for.
+fn put<T: Copy, F: Fn(u64) -> T>(x: &mut [T], s: &[u8], i: usize, made: F)
+    requires { F.IsAlwaysCallable made }
+{
+    for (j, place) in x.iter_mut().enumerate() {
+        *place = made(word(s, i.wrapping_add(j)));
     }
-    let mut j = 0;
-    while j < n {
-        if !is_float(s, after(i, j), x[j]) {
-            return false;
-        }
-        j += 1;
-    }
-    true
 }
 
 // The floats of the words from i on, as many as x has room for.
 pub fn put_floats(x: &mut [f64], s: &[u8], i: usize) {
-    let mut j = 0;
-    while j < x.len() {
-        x[j] = float(s, after(i, j));
-        j += 1;
-    }
+    put(x, s, i, float::word_to_float);
 }
 
 // The words from i on, as many as x has room for.
 pub fn put_words(x: &mut [u64], s: &[u8], i: usize) {
-    let mut j = 0;
-    while j < x.len() {
-        x[j] = word(s, after(i, j));
-        j += 1;
-    }
+    put(x, s, i, |w| w);
 }
 
 // ---- a file
@@ -103,13 +83,10 @@ pub fn fetch_bytes<F: Read>(
     from: usize,
     to: usize,
 ) -> io::Result<bool> {
-    if to > buf.len() {
+    let Some(part) = buf.get_mut(from..to) else {
         return Ok(false);
-    }
-    if from > to {
-        return Ok(false);
-    }
-    match file.read_exact(&mut buf[from..to]) {
+    };
+    match file.read_exact(part) {
         Ok(()) => Ok(true),
         Err(error) if error.kind() == ErrorKind::UnexpectedEof => Ok(false),
         Err(error) => Err(error),
@@ -119,41 +96,15 @@ pub fn fetch_bytes<F: Read>(
 // Reads so many words to the words of buf from `at` on, and answers whether they came.
 pub fn fetch<F: Read>(file: &mut F, buf: &mut [u8], at: usize, words: usize) -> io::Result<bool> {
     let room = buf.len() / 8;
-    if at > room {
+    if at > room || words > room - at {
         return Ok(false);
     }
-    if words > room - at {
-        return Ok(false);
-    }
-    let from = 8 * at;
-    fetch_bytes(file, buf, from, from + 8 * words)
+    fetch_bytes(file, buf, 8 * at, 8 * (at + words))
 }
 
-// The next word of a file.
-#[derive(Clone, Copy)]
-pub enum Next {
-    Is(u64),
-    Nothing,
-}
-
-pub fn fetch_word<F: Read>(file: &mut F) -> io::Result<Next> {
-    let mut one = [0u8; 8];
-    if fetch(file, &mut one, 0, 1)? {
-        return Ok(Next::Is(word(&one, 0)));
-    }
-    Ok(Next::Nothing)
-}
-
-// ---- counts
-
-// So many more at a place.
-pub fn count(counts: &mut [u64], place: usize, more: u64) {
-    if place < counts.len() {
-        counts[place] = std::num::wrapping_add_u64(counts[place], more);
-    }
-}
-
-// A label, a number in decimal, and what follows it.
-pub fn line<R: Print>(rt: &R, label: &str, n: u64, end: &str) -> io::Result<()> {
-    print!(rt; "{label}{n}{end}")
+// The next word of a file, if there is one.
+pub fn fetch_word<F: Read>(file: &mut F) -> io::Result<Option<u64>> {
+    let mut bytes = [0u8; 8];
+    let came = fetch(file, &mut bytes, 0, 1)?;
+    Ok(came.then(|| u64::from_le_bytes(bytes)))
 }

@@ -1,15 +1,18 @@
 -- Laws of the break list: the insertion from behind is the definition's, what the definition finds is in order and of its coordinates, and a break
 -- read off the array. Assumes nothing.
 use mathlib.Core.Path.{◌≡◌, refl, sym, ap, ◌∙◌}
-use mathlib.Core.Bool.{Bool, true, false, cond}
+use mathlib.Core.Bool.{Bool, true, false, not, cond}
 use mathlib.Core.List.{List, [], ◌∷◌, ◌++◌, map}
 use Prim.Native.Nat.{ℕ, zero, suc, ◌+◌, ◌-◌, ◌≤◌, ◌<◌}
 use native.Mathlib.Nat.{le_trans, le_of_lt, lt_trans, le_of_suc-le-suc}
 use native.Mathlib.Numerals.{add-one}
 use native.Mathlib.Omega.{arith}
-use borrow.Author.Tests.{leb-true, leb-false, le-leb}
-use lib.ListN.{length, get_or, take, set, length-set, length-map, get_or-map, get_or-eq_default}
-use lib.Seq.{take-suc, take-suc-set, take-set-le, get_or-set_same, get_or-set_other, get_or-take, length-take-le}
+use borrow.Author.Tests.{leb-true, leb-false, le-leb, ltb-true, ltb-false}
+use lib.Dec.{ltb}
+use lib.ListN.{length, get_or, take, drop, set, length-set, length-take, length-append, length-map, get_or-map}
+use lib.Seq.{take-suc, take-suc-set, take-set-le, get_or-set_same, get_or-set_other, ext_get_or, take_all, take-append-le}
+use Rattle.std.specs.List.{suffix_len, refill}
+use Rattle.std.proofs.lemmas.List.Sums.{suffix_len-take_yes, suffix_len-take_no, suffix_len-le-length}
 use lib.Ieee.{Float}
 use lib.Ieee.Scale.{finite}
 use Rattle.definition.specs.Number.{total_key, total_le}
@@ -83,27 +86,6 @@ by_sift : (P : List BreakTime → Type 0) (k : ℕ) (bs : List BreakTime) (t : B
 unfolding sift
 by_sift P k bs t f g = by_test (λ (y : Bool). P (cond y (set bs (suc k) t) (sift k (moved_up k bs) t))) (total_le (get_or bs k no_break_time).time t.time) f g
 
--- one step of it: the break before k is later, or is not, or there is none
-pub sift_moves : (k : ℕ) (bs : List BreakTime) (t : BreakTime) → 0 < k → total_le (get_or bs (k - 1) no_break_time).time t.time ≡ false
-    → sift k bs t ≡ sift (k - 1) (set bs k (get_or bs (k - 1) no_break_time)) t
-unfolding sift
-sift_moves zero bs t h e = absurd (let z : ⊥ = omega arith in z)
-sift_moves (suc k) bs t h e =
-    let d : suc k - 1 ≡ k = omega arith in
-    rw d (simp (rw d at e))
-
-pub sift_rests : (k : ℕ) (bs : List BreakTime) (t : BreakTime) → 0 < k → total_le (get_or bs (k - 1) no_break_time).time t.time ≡ true → sift k bs t ≡ set bs k t
-unfolding sift
-sift_rests zero bs t h e = absurd (let z : ⊥ = omega arith in z)
-sift_rests (suc k) bs t h e =
-    let d : suc k - 1 ≡ k = omega arith in
-    simp (rw d at e)
-
-pub sift_first : (k : ℕ) (bs : List BreakTime) (t : BreakTime) → k ≤ 0 → sift k bs t ≡ set bs k t
-unfolding sift
-sift_first zero bs t h = refl
-sift_first (suc k) bs t h = absurd (let z : ⊥ = omega arith in z)
-
 pub sift_length : (k : ℕ) (bs : List BreakTime) (t : BreakTime) → length (sift k bs t) ≡ length bs
 unfolding sift
 sift_length zero bs t = length-set bs 0 t
@@ -119,6 +101,72 @@ sift_above (suc k) bs t j h =
     by_sift (λ (l : List BreakTime). get_or l j no_break_time ≡ get_or bs j no_break_time) k bs t
     (λ e. get_or-set_other bs (suc k) j t no_break_time (λ e. omega arith))
     (λ e. sift_above k (moved_up k bs) t j (omega arith) ∙ get_or-set_other bs (suc k) j (get_or bs k no_break_time) no_break_time (λ e. omega arith))
+
+-- r is bs with the breaks from p to k moved up by a place
+pub record MovedUp (bs r : List BreakTime) (p k : ℕ) : Type 0 where
+  pub long : length r ≡ length bs
+  pub below : (j : ℕ) → j < suc p → get_or r j no_break_time ≡ get_or bs j no_break_time
+  pub moved : (j : ℕ) → p ≤ j → j < k → get_or r (suc j) no_break_time ≡ get_or bs j no_break_time
+  pub above : (j : ℕ) → k < j → get_or r j no_break_time ≡ get_or bs j no_break_time
+
+abbrev is_later : BreakTime → BreakTime → Bool
+is_later t other = not (total_le other.time t.time)
+
+none_moved : (bs r : List BreakTime) (p k : ℕ) → MovedUp bs r p k → p ≡ k → bs ≡ r
+none_moved bs r p k m e =
+    ext_get_or no_break_time bs r (sym m.long)
+    (λ j l.
+    by_test (λ (o : Bool). get_or bs j no_break_time ≡ get_or r j no_break_time) (ltb j (suc p))
+    (λ y. sym (m.below j (ltb-true _ _ y)))
+    (λ y. let h : suc p ≤ j = ltb-false _ _ y in sym (m.above j (omega arith))))
+
+-- the first of them moved already
+first_moved : (bs r : List BreakTime) (p k : ℕ) → MovedUp bs r p (suc k) → p ≤ k → suc k < length bs → MovedUp (moved_up k bs) r p k
+first_moved bs r p k m h l =
+    let x = get_or bs k no_break_time in
+    let other : (j : ℕ) → (j ≡ suc k → ⊥) → get_or (moved_up k bs) j no_break_time ≡ get_or bs j no_break_time =
+    λ j d. get_or-set_other bs (suc k) j x no_break_time d in
+    record {
+      long = m.long ∙ sym (length-set bs (suc k) x);
+      below = λ j b. m.below j b ∙ sym (other j (λ e. omega arith));
+      moved = λ j b q. m.moved j b (omega arith) ∙ sym (other j (λ e. omega arith));
+      above = λ j b.
+          by_test (λ (o : Bool). get_or r j no_break_time ≡ get_or (moved_up k bs) j no_break_time) (ltb j (suc (suc k)))
+          (λ y.
+          let e : j < suc (suc k) = ltb-true _ _ y in
+          let z : j ≡ suc k = omega arith in
+          rw z (m.moved k h (omega arith) ∙ sym (get_or-set_same bs (suc k) x no_break_time l)))
+          (λ y.
+          let e : suc (suc k) ≤ j = ltb-false _ _ y in
+          m.above j (omega arith) ∙ sym (other j (λ d. omega arith)));
+    }
+
+pub later_few : (bs : List BreakTime) (k : ℕ) (t : BreakTime) {l : ℕ} → l ≡ suffix_len (is_later t) (take k bs) → l ≤ k
+later_few bs k t e = omega (arith, suffix_len-le-length (is_later t) (take k bs), length-take k bs)
+
+-- the insertion puts the break behind the last that is not later, and moves up those that are
+pub sift_moves : (k p : ℕ) (bs r : List BreakTime) (t : BreakTime) → k < length bs → p + suffix_len (is_later t) (take k bs) ≡ k → MovedUp bs r p k
+    → set r p t ≡ sift k bs t
+unfolding sift
+sift_moves zero p bs r t l e m =
+    let z : p ≡ 0 = omega arith in
+    rw (none_moved bs r p 0 m z, z) refl
+sift_moves (suc k) p bs r t l e m =
+    by_sift (λ (x : List BreakTime). set r p t ≡ x) k bs t
+    (λ y.
+    let d : suc k - 1 ≡ k = omega arith in
+    let n : suffix_len (is_later t) (take (suc k) bs) ≡ 0 =
+    suffix_len-take_no (is_later t) bs (suc k) no_break_time (omega arith) (omega arith) (rw d (ap not y)) in
+    let z : p ≡ suc k = omega arith in
+    rw (none_moved bs r p (suc k) m z, z) refl)
+    (λ y.
+    let d : suc k - 1 ≡ k = omega arith in
+    let n : suffix_len (is_later t) (take (suc k) bs) ≡ 1 + suffix_len (is_later t) (take k bs) =
+    rw d at (suffix_len-take_yes (is_later t) bs (suc k) no_break_time (omega arith) (omega arith) (rw d (ap not y))) in
+    let x = get_or bs k no_break_time in
+    let h : p ≤ k = omega arith in
+    let low : take k (moved_up k bs) ≡ take k bs = take-set-le k bs (suc k) x (omega arith) in
+    sift_moves k p (moved_up k bs) r t (rw (length-set bs (suc k) x) (omega arith)) (rw low (omega arith)) (first_moved bs r p k m h l))
 
 map-append : (a b : List BreakTime) → map break_of (a ++ b) ≡ map break_of a ++ map break_of b
 map-append [] b = refl
@@ -154,24 +202,21 @@ sift_is (suc k) bs t h r =
     (sift_is k (moved_up k bs) t (rw (length-set bs (suc k) (get_or bs k no_break_time)) q) (rw low (rising_front 0 (map break_of (take k bs)) e s)))
     ∙ rw (low, firsts bs k q) (sym (inserted_before (map break_of (take k bs)) e (break_of t) y))))
 
--- r is the list with t in its place
-pub inserts : {b : Breaks} {t : BreakTime} {r : List BreakTime} → Ordered b → r ≡ sift b.count b.list t
-    → Inserted b t (record { list = r; count = b.count + 1 })
-inserts {b} {t} {r} o e =
-    let h : b.count < length b.list = rw o.long o.room in
-    record {
-      long = ap length e ∙ sift_length b.count b.list t ∙ o.long;
-      count = refl;
-      is = rw (add-one, e) (sift_is b.count b.list t h o.rising);
-    }
-
--- a finite time is kept, and no other
-pub keeps : {b : Breaks} {t : Float} {ok : Bool} {i : ℕ} {r : Breaks} → ok ≡ finite t → ok ≡ true → Inserted b (record { time = t; coordinate = i }) r
-    → Kept b t i r
-keeps {b} {t} e f r = record { long = r.long; count = omega (arith, r.count); is = rw (sym e ∙ f) r.is }
-
-pub drops : {b : Breaks} {t : Float} {ok : Bool} {i : ℕ} → Ordered b → ok ≡ finite t → ok ≡ false → Kept b t i b
-drops {b} {t} o e f = record { long = o.long; count = omega arith; is = rw (sym e ∙ f) refl }
+-- the last of the list, put in its place
+pub inserts : {b : Breaks} (t : BreakTime) {k : ℕ} {more list r : List BreakTime} → Ordered b → k ≡ length b.list.items → more ≡ b.list.items ++ (t ∷ [])
+    → list ≡ more → r ≡ sift k list t → Inserted b t (record { list = record { items = refill (length more) more r } })
+inserts {b} t {k} {more} {list} {r} o e f g h =
+    let xs = b.list.items in
+    let n = length xs in
+    let long : length more ≡ suc n = rw f (length-append xs (t ∷ []) ∙ (let z : n + 1 ≡ suc n = omega arith in z)) in
+    let whole : r ≡ sift n more t = h ∙ rw (e, g) refl in
+    let same : length r ≡ suc n = ap length whole ∙ sift_length n more t ∙ long in
+    let front : take n more ≡ xs = rw f (take-append-le n xs (t ∷ []) (omega arith) ∙ take_all n xs (omega arith)) in
+    let all : take (length more) (r ++ drop (length r) more) ≡ r =
+    rw long (take-append-le (suc n) r (drop (length r) more) (omega arith) ∙ take_all (suc n) r (omega arith)) in
+    ap (map break_of) (all ∙ whole ∙ sym (take_all (suc n) (sift n more t) (omega (arith, sift_length n more t))))
+    ∙ sift_is n more t (omega arith) (rw front o.rising)
+    ∙ ap (λ (l : List BreakTime). inserted (break_of t) (map break_of l)) front
 
 -- ---- what the definition finds
 
@@ -221,36 +266,47 @@ below_get n [] i r h = absurd (omega arith)
 below_get n (b ∷ bs) zero r h = r.0
 below_get n (b ∷ bs) (suc i) r h = below_get n bs i r.1 (le_of_suc-le-suc h)
 
--- ---- a break read off the array
+inserted_length : (b : Break) (bs : List Break) → length (inserted b bs) ≡ suc (length bs)
+unfolding inserted
+inserted_length b [] = refl
+inserted_length b (c ∷ cs) =
+    by_test (λ (t : Bool). length (cond t (c ∷ inserted b cs) (b ∷ c ∷ cs)) ≡ suc (suc (length cs))) (total_le c.time b.time)
+    (λ e. ap suc (inserted_length b cs))
+    (λ e. refl)
+
+found_length : (n : ℕ) (b : Bounds) (x g : List Float) → length (breaks_of n b x g) ≤ n
+unfolding breaks_of fold_to
+found_length zero b x g = omega arith
+found_length (suc n) b x g =
+    by_test (λ (t : Bool). length (cond t (inserted (record { time = break_time b x g n; coordinate = n }) (breaks_of n b x g)) (breaks_of n b x g)) ≤ suc n)
+    (finite (break_time b x g n))
+    (λ e. omega (arith, inserted_length (record { time = break_time b x g n; coordinate = n }) (breaks_of n b x g), found_length n b x g))
+    (λ e. omega (arith, found_length n b x g))
+
+-- ---- a break read off the vector
 
 get_any : (bs : List Break) (i : ℕ) (c d : Break) → i < length bs → get_or bs i c ≡ get_or bs i d
 get_any [] i c d h = absurd (omega arith)
 get_any (b ∷ bs) zero c d h = refl
 get_any (b ∷ bs) (suc i) c d h = get_any bs i c d (le_of_suc-le-suc h)
 
-pub breaks_length : (b : Breaks) → b.count ≤ length b.list → length (break_list b) ≡ b.count
-breaks_length b h = length-map (take b.count b.list) break_of ∙ length-take-le b.count b.list h
+pub breaks_length : (b : Breaks) → length (break_list b) ≡ length b.list.items
+breaks_length b = length-map b.list.items break_of
 
-pub break_get : (b : Breaks) (i : ℕ) → i < b.count → b.count ≤ length b.list → get_or (break_list b) i no_break ≡ break_of (get_or b.list i no_break_time)
-break_get b i h l =
-    get_any (break_list b) i no_break (break_of no_break_time) (rw (breaks_length b l) h)
-    ∙ get_or-map break_of (take b.count b.list) i no_break_time
-    ∙ ap break_of (get_or-take b.count b.list i no_break_time h)
-
-pub break_past : (b : Breaks) (i : ℕ) → b.count ≤ i → b.count ≤ length b.list → get_or (break_list b) i no_break ≡ no_break
-break_past b i h l = get_or-eq_default (break_list b) no_break (rw (breaks_length b l) h)
+pub break_get : (b : Breaks) (i : ℕ) → i < length b.list.items → get_or (break_list b) i no_break ≡ break_of (get_or b.list.items i no_break_time)
+break_get b i h =
+    get_any (break_list b) i no_break (break_of no_break_time) (rw (breaks_length b) h)
+    ∙ get_or-map break_of b.list.items i no_break_time
 
 -- ---- the loop that finds them: b holds the breaks of the first i coordinates
 
 pub record Finding (n : ℕ) (v : Vecs) (i : ℕ) (b : Breaks) : Type 0 where
   pub upto : i ≤ n
-  pub long : length b.list ≡ most_coordinates
-  pub count : b.count ≤ i
   pub is : break_list b ≡ breaks_of i (bounds_of v) (v vector_x) (v vector_g)
 
-pub finding_none : {n : ℕ} {v : Vecs} {b : Breaks} → length b.list ≡ most_coordinates → b.count ≡ 0 → Finding n v 0 b
+pub finding_none : {n : ℕ} {v : Vecs} {b : Breaks} → break_list b ≡ [] → Finding n v 0 b
 unfolding breaks_of fold_to
-finding_none {b = b} l e = record { upto = omega arith; long = l; count = omega arith; is = rw e refl }
+finding_none e = record { upto = omega arith; is = e }
 
 pub finding_more : {n : ℕ} (a : List Float) {i : ℕ} {b : Breaks} {t : Float} {r : Breaks}
     → Finding n (view a n) i b → i < n → t ≡ break_time_in (words_at a n i) → Kept b t i r → Finding n (view a n) (i + 1) r
@@ -259,27 +315,26 @@ finding_more {n} a {i} {b} {t} {r} f h e k =
     let q : t ≡ break_time (bounds_of v) (v vector_x) (v vector_g) i = e ∙ ap break_time_in (words-view a n i h) in
     record {
       upto = omega arith;
-      long = k.long;
-      count = omega (arith, k.count, f.count);
-      is = k.is ∙ rw (add-one, q, f.is) (sym (breaks_more i (bounds_of v) (v vector_x) (v vector_g)));
+      is = k ∙ rw (add-one, q, f.is) (sym (breaks_more i (bounds_of v) (v vector_x) (v vector_g)));
     }
 
 pub finding_ordered : {n : ℕ} {v : Vecs} {i : ℕ} {b : Breaks} → Finding n v i b → i < n → n ≤ most_coordinates → Ordered b
-finding_ordered {n} {v} {i} {b} f h l =
-    record { long = f.long; room = omega (arith, f.count); rising = rw f.is (rising_found i (bounds_of v) (v vector_x) (v vector_g)) }
+finding_ordered {n} {v} {i} {b} f h l = record {
+  room =
+      let e : length b.list.items ≡ length (breaks_of i (bounds_of v) (v vector_x) (v vector_g)) = sym (breaks_length b) ∙ ap length f.is in
+      omega (arith, found_length i (bounds_of v) (v vector_x) (v vector_g));
+  rising = rw f.is (rising_found i (bounds_of v) (v vector_x) (v vector_g));
+}
 
-pub finding_done : {n : ℕ} {v : Vecs} {i : ℕ} {b : Breaks} → Finding n v i b → n ≤ i → n ≤ most_coordinates → Found n v b
-finding_done {n} {v} {i} {b} f h l =
+pub finding_done : {n : ℕ} {v : Vecs} {i : ℕ} {b : Breaks} → Finding n v i b → n ≤ i → Found n v b
+finding_done {n} {v} {i} {b} f h =
     let e : i ≡ n = omega (arith, f.upto) in
     let is : break_list b ≡ breaks_of n (bounds_of v) (v vector_x) (v vector_g) = rw e at f.is in
-    let few : b.count ≤ length b.list = omega (arith, f.count, f.long) in
     record {
       listed = record {
-        long = f.long;
-        few = omega (arith, f.count);
         within = λ k m.
-            rw (break_get b k m few) at
-            (below_get n (break_list b) k (rw is (below_found n (bounds_of v) (v vector_x) (v vector_g))) (rw (breaks_length b few) m));
+            rw (break_get b k m) at
+            (below_get n (break_list b) k (rw is (below_found n (bounds_of v) (v vector_x) (v vector_g))) (rw (breaks_length b) m));
       };
       is = is;
     }

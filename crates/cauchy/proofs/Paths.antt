@@ -1,27 +1,52 @@
 -- Laws of the path: where it starts, how it travels, where it stops, and the point on it. Assumes nothing.
 use mathlib.Core.Path.{◌≡◌, refl, sym, ap, ◌∙◌}
-use mathlib.Core.Bool.{Bool, true, false, cond}
+use mathlib.Core.Bool.{Bool, true, false, cond, ◌&&◌}
 use mathlib.Core.List.{List}
-use mathlib.Core.Option.{none, some}
-use Prim.Native.Nat.{ℕ, suc, ◌+◌, ◌-◌, ◌≤◌, ◌<◌}
+use Rattle.std.specs.Prelude.{None, Some}
+use Prim.Native.Nat.{ℕ, zero, suc, ◌+◌, ◌-◌, ◌*◌, ◌≤◌, ◌<◌}
 use native.Mathlib.Omega.{arith}
-use lib.ListN.{length, get_or}
+use borrow.Author.Tests.{not-true, not-false}
+use lib.ListN.{length, get_or, take, drop}
+use lib.Seq.{take-suc, take_all}
 use lib.Ieee as Ieee
+use Rattle.std.specs.List.{list_all}
+use Rattle.std.proofs.lemmas.List.Recursion.{and_push}
 use lib.Ieee.{Float, nan}
 use Rattle.definition.specs.Number.{minus, zero64}
-use Rattle.definition.specs.Vector.{word, all_finite}
+use Rattle.definition.specs.Vector.{fold_to, word, all_finite}
 use Rattle.definition.specs.Problem.{Bounds}
 use Rattle.definition.specs.Geometry as D
-use Rattle.definition.specs.Geometry.{Break, no_break, point_on_path, stopped, stop_all, reached, passed}
-use Rattle.area.specs.Area.{Vecs, bounds_of, view, words_at, rowwise, fill_of, put_word, given, ScratchOnly}
+use Rattle.definition.specs.Geometry.{Break, no_break, point_on_path, stopped, stop_all, reached, passed, still}
+use Rattle.area.specs.Area.{Vecs, bounds_of, view, words_at, rowwise, first_pair, fill_of, put_word, given, ScratchOnly}
 use Rattle.area.specs.Area.{vector_x, vector_lower, vector_upper, vector_velocity, vector_displacement, vector_active, vector_cauchy}
-use Rattle.area.proofs.Laws.{scratch_refl, scratch_trans, scratch_upd}
+use Rattle.area.proofs.Laws.{scratch_refl, scratch_trans, scratch_upd, part_lent, length-view}
 use Rattle.cauchy.specs.declared.BreakTime.{BreakTime}
 use Rattle.cauchy.specs.declared.Breaks.{Breaks}
 use Rattle.cauchy.specs.declared.Path.{Path}
 use Rattle.cauchy.specs.State.{no_break_time, break_of, break_list, Listed, velocity_in, bound_in}
 use Rattle.cauchy.specs.State.{point_in, path_of, travelled_of, Travels, Begins, PathPoint}
 use Rattle.cauchy.proofs.Order.{words-view, breaks_length, break_get}
+
+-- ---- whether it stands still
+
+abbrev pub is_zero : Float → Bool
+is_zero x = Ieee.eq x zero64
+
+still_to : (v : List Float) (n : ℕ) → n ≤ length v → list_all is_zero (take n v) ≡ still n v
+unfolding fold_to
+still_to v zero h = refl
+still_to v (suc n) h =
+    rw (take-suc v n nan (omega arith))
+    (and_push (list_all is_zero) is_zero refl (λ _ _. refl) (take n v) (word v n)
+    ∙ ap (λ (t : Bool). t && is_zero (word v n)) (still_to v n (omega arith)))
+
+-- over the part of the area that is lent
+pub still_all : (a : List Float) (n : ℕ) → first_pair * n ≤ length a
+    → list_all is_zero (take (vector_velocity * n + n - vector_velocity * n) (drop (vector_velocity * n) a)) ≡ still n (view a n vector_velocity)
+still_all a n h =
+    let v = view a n vector_velocity in
+    let long : length v ≡ n = length-view a n vector_velocity (omega arith) in
+    ap (list_all is_zero) (part_lent a vector_velocity n ∙ sym (take_all n v (omega arith))) ∙ still_to v n (omega arith)
 
 -- ---- what stays
 
@@ -42,7 +67,7 @@ begins n v d e t f = record {
 
 -- ---- the point
 
-given_is : (ok : Bool) (v : List Float) → given ok v ≡ cond ok (some v) none
+given_is : (ok : Bool) (v : List Float) → given ok v ≡ cond ok (Some v) None
 given_is true v = refl
 given_is false v = refl
 
@@ -87,45 +112,56 @@ module _ (b : Bounds) (x : List Float) (bs : List Break) (t : Float) (k : ℕ) (
 
 -- the path p with the vectors a is on its way from p₀ with a₀
 pub record Stopping (b : Breaks) (t : Float) (p₀ : Path) (a₀ : Vecs) (p : Path) (a : Vecs) : Type 0 where
-  pub is : stop_all (b.count - p.event) (bounds_of a₀) (a₀ vector_x) (break_list b) t (path_of p a)
-      ≡ stop_all (b.count - p₀.event) (bounds_of a₀) (a₀ vector_x) (break_list b) t (path_of p₀ a₀)
+  pub is : stop_all (length b.list.items - p.event) (bounds_of a₀) (a₀ vector_x) (break_list b) t (path_of p a)
+      ≡ stop_all (length b.list.items - p₀.event) (bounds_of a₀) (a₀ vector_x) (break_list b) t (path_of p₀ a₀)
   pub kept : ScratchOnly a₀ a
 
-pub stopping_none : {b : Breaks} {t : Float} {p : Path} {a : Vecs} → Stopping b t p a p a
-stopping_none = record { is = refl; kept = scratch_refl }
-
 -- past the last break, and before one at another time
-pub stopping_past : {b : Breaks} {t : Float} {p₀ : Path} {a₀ : Vecs} {p : Path} {a : Vecs} → Stopping b t p₀ a₀ p a → b.count ≤ p.event
-    → Travels (stop_all (b.count - p₀.event) (bounds_of a₀) (a₀ vector_x) (break_list b) t) p₀ a₀ p a
+pub stopping_past : {b : Breaks} {t : Float} {p₀ : Path} {a₀ : Vecs} {p : Path} {a : Vecs} → Stopping b t p₀ a₀ p a → length b.list.items ≤ p.event
+    → Travels (stop_all (length b.list.items - p₀.event) (bounds_of a₀) (a₀ vector_x) (break_list b) t) p₀ a₀ p a
 stopping_past {b} {t} {p₀} {a₀} {p} {a} s h =
-    record { is = sym (stop_past (bounds_of a₀) (a₀ vector_x) (break_list b) t b.count (path_of p a) h) ∙ s.is; kept = s.kept }
+    record { is = sym (stop_past (bounds_of a₀) (a₀ vector_x) (break_list b) t (length b.list.items) (path_of p a) h) ∙ s.is; kept = s.kept }
 
 pub stopping_rest : {n : ℕ} {b : Breaks} {t : Float} {p₀ : Path} {a₀ : Vecs} {p : Path} {a : Vecs} {k : BreakTime} → Listed n b → Stopping b t p₀ a₀ p a
-    → p.event < b.count → k ≡ get_or b.list p.event no_break_time → Ieee.eq k.time t ≡ false
-    → Travels (stop_all (b.count - p₀.event) (bounds_of a₀) (a₀ vector_x) (break_list b) t) p₀ a₀ p a
+    → p.event < length b.list.items → k ≡ get_or b.list.items p.event no_break_time → Ieee.eq k.time t ≡ false
+    → Travels (stop_all (length b.list.items - p₀.event) (bounds_of a₀) (a₀ vector_x) (break_list b) t) p₀ a₀ p a
 stopping_rest {n} {b} {t} {p₀} {a₀} {p} {a} {k} l s h e f =
-    let g : get_or (break_list b) p.event no_break ≡ break_of k = break_get b p.event h (omega (arith, l.few, l.long)) ∙ ap break_of (sym e) in
-    record { is = sym (stop_rest (bounds_of a₀) (a₀ vector_x) (break_list b) t b.count (path_of p a) h (rw g f)) ∙ s.is; kept = s.kept }
+    let g : get_or (break_list b) p.event no_break ≡ break_of k = break_get b p.event h ∙ ap break_of (sym e) in
+    record { is = sym (stop_rest (bounds_of a₀) (a₀ vector_x) (break_list b) t (length b.list.items) (path_of p a) h (rw g f)) ∙ s.is; kept = s.kept }
 
 pub stopping_more : {n : ℕ} {b : Breaks} {t : Float} {p₀ : Path} {a₀ : Vecs} {p : Path} {a : Vecs} {k : BreakTime} {q : Path} {c : Vecs} → Listed n b
     → Stopping b t p₀ a₀ p a
-    → p.event < b.count → k ≡ get_or b.list p.event no_break_time → Ieee.eq k.time t ≡ true
+    → p.event < length b.list.items → k ≡ get_or b.list.items p.event no_break_time → Ieee.eq k.time t ≡ true
     → Travels (stopped (bounds_of a) (a vector_x) k.coordinate) p a q c
     → Stopping b t p₀ a₀ q c
 stopping_more {n} {b} {t} {p₀} {a₀} {p} {a} {k} {q} {c} l s h e f r =
-    let g : get_or (break_list b) p.event no_break ≡ break_of k = break_get b p.event h (omega (arith, l.few, l.long)) ∙ ap break_of (sym e) in
+    let g : get_or (break_list b) p.event no_break ≡ break_of k = break_get b p.event h ∙ ap break_of (sym e) in
     record {
       is =
-          ap (λ (d : D.Path). stop_all (b.count - d.event) (bounds_of a₀) (a₀ vector_x) (break_list b) t d) r.is
-          ∙ (λ i. stop_all (b.count - (p.event + 1)) (bounds_of a₀) (a₀ vector_x) (break_list b) t
+          ap (λ (d : D.Path). stop_all (length b.list.items - d.event) (bounds_of a₀) (a₀ vector_x) (break_list b) t d) r.is
+          ∙ (λ i. stop_all (length b.list.items - (p.event + 1)) (bounds_of a₀) (a₀ vector_x) (break_list b) t
           (stopped (bounds_kept s.kept i) (s.kept.low vector_x (omega arith) i) k.coordinate (path_of p a)))
-          ∙ ap (λ (d : Break). stop_all (b.count - (p.event + 1)) (bounds_of a₀) (a₀ vector_x) (break_list b) t
+          ∙ ap (λ (d : Break). stop_all (length b.list.items - (p.event + 1)) (bounds_of a₀) (a₀ vector_x) (break_list b) t
           (stopped (bounds_of a₀) (a₀ vector_x) d.coordinate (path_of p a)))
           (sym g)
-          ∙ sym (stop_next (bounds_of a₀) (a₀ vector_x) (break_list b) t b.count (path_of p a) h (rw g f))
+          ∙ sym (stop_next (bounds_of a₀) (a₀ vector_x) (break_list b) t (length b.list.items) (path_of p a) h (rw g f))
           ∙ s.is;
       kept = scratch_trans s.kept r.kept;
     }
+
+-- at the time, and at another
+pub at_time : (x y : Float) → Ieee.ne x y ≡ false → Ieee.eq x y ≡ true
+unfolding Ieee.ne
+at_time x y e = not-false (Ieee.eq x y) e
+
+pub not_at_time : (x y : Float) → Ieee.ne x y ≡ true → Ieee.eq x y ≡ false
+unfolding Ieee.ne
+not_at_time x y e = not-true (Ieee.eq x y) e
+
+-- the break that is read off the lent list
+pub entry_is : {b : Breaks} {list : List BreakTime} {e : ℕ} (p : Path) {k : BreakTime} → list ≡ b.list.items → p.event ≡ e → e < length list
+    → k ≡ get_or list e no_break_time → (p.event < length b.list.items) × (k ≡ get_or b.list.items p.event no_break_time)
+entry_is {b} {list} {e} p f g h r = (rw (← f, g) h, rw (← f, g) r)
 
 pub stopped_event : {F : D.Path → D.Path} {p : Path} {a : Vecs} {q : Path} {c : Vecs} → Travels F p a q c → q.event ≡ (F (path_of p a)).event
 stopped_event r = ap (λ (d : D.Path). d.event) r.is
@@ -133,11 +169,11 @@ stopped_event r = ap (λ (d : D.Path). d.event) r.is
 -- ---- past a segment
 
 pub passes : {n : ℕ} {b : Breaks} {t : Float} {p : Path} {v v₁ : Vecs} {q : Path} {v₂ : Vecs} → Listed n b → v₁ ≡ travelled_of n (minus t p.previous) v
-    → Travels (stop_all (b.count - p.event) (bounds_of v₁) (v₁ vector_x) (break_list b) t) p v₁ q v₂
+    → Travels (stop_all (length b.list.items - p.event) (bounds_of v₁) (v₁ vector_x) (break_list b) t) p v₁ q v₂
     → Travels (passed n (bounds_of v) (v vector_x) (break_list b) t) p v (record { previous = t; event = q.event }) v₂
 unfolding passed rowwise
 passes {n} {b} {t} {p} {v} {v₁} {q} {v₂} l e r =
-    let m : length (break_list b) ≡ b.count = breaks_length b (omega (arith, l.few, l.long)) in
+    let m : length (break_list b) ≡ length b.list.items = breaks_length b in
     record {
       is = ap (reached t) r.is ∙ rw (e, m) refl;
       kept = scratch_trans (rw e (scratch_upd _ _ (omega arith) (omega arith) scratch_refl)) r.kept;

@@ -2,8 +2,10 @@
 use mathlib.Core.Path.{◌≡◌, refl, sym, ap, ◌∙◌}
 use mathlib.Core.Bool.{Bool, true, false, not, ◌&&◌}
 use mathlib.Core.List.{List}
-use mathlib.Core.Option.{Option, none, some}
-use Prim.Native.Nat.{ℕ, zero, suc, ◌+◌, ◌-◌, ◌≤◌, ◌<◌}
+use Rattle.std.specs.Prelude.{Option, None, Some}
+use Rattle.std.specs.declared.ops.ControlFlow.{ControlFlow}
+use Rattle.std.specs.declared.ops.ControlFlow.TheVariants as S
+use Prim.Native.Nat.{ℕ, zero, suc, ◌+◌, ◌≤◌, ◌<◌}
 use native.Mathlib.Omega.{arith}
 use borrow.Author.Tests.{not-true, not-false}
 use lib.ListN.{get_or}
@@ -23,15 +25,13 @@ use Rattle.compact.specs.State.{compact_of, Multiplied}
 use Rattle.compact.proofs.Models.{compact_kept, compact_upd}
 use Rattle.cauchy.specs.declared.Breaks.{Breaks}
 use Rattle.cauchy.specs.declared.Path.{Path}
-use Rattle.cauchy.specs.declared.Segment.{Segment}
-use Rattle.cauchy.specs.declared.Segment.TheVariants as S
 use Rattle.cauchy.specs.State.{break_list, Found, path_of, travelled_of, Travels, Begins, Points, PathPoint, segment_of, Segments}
 use Rattle.cauchy.proofs.Paths.{bounds_kept}
 
 -- ---- with a slope below zero and a curvature above
 
 module _ (n : ℕ) (b : Bounds) (x : List Float) (bs : List Break) (p : D.Path) (next m : Float) where
-  along_none : finite m ≡ false → along n b x bs p next m ≡ D.Segment.ended none
+  along_none : finite m ≡ false → along n b x bs p next m ≡ D.Segment.ended None
   unfolding along
   along_none e = rw e refl
 
@@ -44,12 +44,12 @@ module _ (n : ℕ) (b : Bounds) (x : List Float) (bs : List Break) (p : D.Path) 
   along_on e f = rw (e, f) refl
 
 module _ (n : ℕ) (b : Breaks) (p : Path) (next m : Float) {v : Vecs} {ok : Bool} where
-  pub along_fails : ok ≡ finite m → not ok ≡ true → Segments (along n (bounds_of v) (v vector_x) (break_list b) (path_of p v) next m) v (S.Ended false) v
+  pub along_fails : ok ≡ finite m → not ok ≡ true → Segments (along n (bounds_of v) (v vector_x) (break_list b) (path_of p v) next m) v (S.Break false) v
   along_fails e f = record { is = sym (along_none n (bounds_of v) (v vector_x) (break_list b) (path_of p v) next m (sym e ∙ not-true ok f)); kept = scratch_refl }
 
   pub along_ends : {v₁ v₂ : Vecs} {r : Bool} → ok ≡ finite m → not ok ≡ false → Ieee.lt m (minus next p.previous) ≡ true → v₁ ≡ travelled_of n m v
       → PathPoint n v₁ r v₂
-      → Segments (along n (bounds_of v) (v vector_x) (break_list b) (path_of p v) next m) v (S.Ended r) v₂
+      → Segments (along n (bounds_of v) (v vector_x) (break_list b) (path_of p v) next m) v (S.Break r) v₂
   unfolding rowwise
   along_ends {v₁} {v₂} {r} e f l t q = record {
     is =
@@ -60,7 +60,7 @@ module _ (n : ℕ) (b : Breaks) (p : Path) (next m : Float) {v : Vecs} {ok : Boo
 
   pub along_leads : {q : Path} {v₁ : Vecs} → ok ≡ finite m → not ok ≡ false → Ieee.lt m (minus next p.previous) ≡ false
       → Travels (passed n (bounds_of v) (v vector_x) (break_list b) next) p v q v₁
-      → Segments (along n (bounds_of v) (v vector_x) (break_list b) (path_of p v) next m) v (S.Onward q) v₁
+      → Segments (along n (bounds_of v) (v vector_x) (break_list b) (path_of p v) next m) v (S.Continue q) v₁
   along_leads e f l q = record {
     is = ap D.Segment.onward q.is ∙ sym (along_on n (bounds_of v) (v vector_x) (break_list b) (path_of p v) next m (sym e ∙ not-false ok f) l);
     kept = q.kept;
@@ -69,7 +69,7 @@ module _ (n : ℕ) (b : Breaks) (p : Path) (next m : Float) {v : Vecs} {ok : Boo
 -- ---- by the slope and the curvature
 
 module _ (n : ℕ) (b : Bounds) (x : List Float) (bs : List Break) (p : D.Path) (slope curvature : Float) where
-  slope_none : (finite slope && finite curvature && Ieee.lt zero64 curvature) ≡ false → by_slope n b x bs p slope curvature ≡ D.Segment.ended none
+  slope_none : (finite slope && finite curvature && Ieee.lt zero64 curvature) ≡ false → by_slope n b x bs p slope curvature ≡ D.Segment.ended None
   unfolding by_slope
   slope_none e = rw e refl
 
@@ -85,18 +85,18 @@ module _ (n : ℕ) (b : Bounds) (x : List Float) (bs : List Break) (p : D.Path) 
 
 module _ (n : ℕ) (b : Breaks) (p : Path) (slope curvature : Float) {v : Vecs} where
   pub slope_fails : (finite slope && finite curvature && Ieee.lt zero64 curvature) ≡ false
-      → Segments (by_slope n (bounds_of v) (v vector_x) (break_list b) (path_of p v) slope curvature) v (S.Ended false) v
+      → Segments (by_slope n (bounds_of v) (v vector_x) (break_list b) (path_of p v) slope curvature) v (S.Break false) v
   slope_fails e = record { is = sym (slope_none n (bounds_of v) (v vector_x) (break_list b) (path_of p v) slope curvature e); kept = scratch_refl }
 
   pub slope_ends : {r : Bool} {v₁ : Vecs} → (finite slope && finite curvature && Ieee.lt zero64 curvature) ≡ true → Ieee.le zero64 slope ≡ true
       → PathPoint n v r v₁
-      → Segments (by_slope n (bounds_of v) (v vector_x) (break_list b) (path_of p v) slope curvature) v (S.Ended r) v₁
+      → Segments (by_slope n (bounds_of v) (v vector_x) (break_list b) (path_of p v) slope curvature) v (S.Break r) v₁
   slope_ends e f q = record {
     is = ap D.Segment.ended (q.is p) ∙ sym (slope_point n (bounds_of v) (v vector_x) (break_list b) (path_of p v) slope curvature e f);
     kept = q.kept;
   }
 
-  pub slope_goes : {next : Float} {r : Segment} {v₁ : Vecs} → (finite slope && finite curvature && Ieee.lt zero64 curvature) ≡ true
+  pub slope_goes : {next : Float} {r : ControlFlow Bool Path} {v₁ : Vecs} → (finite slope && finite curvature && Ieee.lt zero64 curvature) ≡ true
       → Ieee.le zero64 slope ≡ false
       → next ≡ (get_or (break_list b) p.event no_break).time
       → Segments (along n (bounds_of v) (v vector_x) (break_list b) (path_of p v) next (over (Ieee.neg slope) curvature)) v r v₁
@@ -113,16 +113,16 @@ module _ (n : ℕ) (b : Bounds) (c : C.Compact) (x g : List Float) (bs : List Br
   unfolding segment
   segment_point e = rw e refl
 
-  segment_none₁ : still n p.direction ≡ false → C.product n c p.direction ≡ none → segment n b c x g bs p ≡ D.Segment.ended none
+  segment_none₁ : still n p.direction ≡ false → C.product n c p.direction ≡ None → segment n b c x g bs p ≡ D.Segment.ended None
   unfolding segment
   segment_none₁ e f = rw (e, f) refl
 
-  segment_none₂ : (bd : List Float) → still n p.direction ≡ false → C.product n c p.direction ≡ some bd → C.product n c p.displacement ≡ none
-      → segment n b c x g bs p ≡ D.Segment.ended none
+  segment_none₂ : (bd : List Float) → still n p.direction ≡ false → C.product n c p.direction ≡ Some bd → C.product n c p.displacement ≡ None
+      → segment n b c x g bs p ≡ D.Segment.ended None
   unfolding segment
   segment_none₂ bd e f h = rw (e, f, h) refl
 
-  segment_slope : (bd bz : List Float) → still n p.direction ≡ false → C.product n c p.direction ≡ some bd → C.product n c p.displacement ≡ some bz
+  segment_slope : (bd bz : List Float) → still n p.direction ≡ false → C.product n c p.direction ≡ Some bd → C.product n c p.displacement ≡ Some bz
       → segment n b c x g bs p ≡ by_slope n b x bs p (plus (dot n g p.direction) (dot n bz p.direction)) (dot n p.direction bd)
   unfolding segment
   segment_slope bd bz e f h = rw (e, f, h) refl
@@ -133,11 +133,11 @@ segment_at h theta b p v = segment h.n (bounds_of v) (compact_of h theta v) (v v
 
 -- the products that there are, and that there are not
 made : {h : Shape} {theta : Float} {k q : ℕ} {a : Vecs} {ok : Bool} {b : Vecs} → Multiplied h theta k q a ok b → ok ≡ true
-    → C.product h.n (compact_of h theta a) (a q) ≡ some (b k)
+    → C.product h.n (compact_of h theta a) (a q) ≡ Some (b k)
 made {k = k} {b = b} r e = sym r.is ∙ ap (λ (t : Bool). given t (b k)) e
 
 missed : {h : Shape} {theta : Float} {k q : ℕ} {a : Vecs} {ok : Bool} {b : Vecs} → Multiplied h theta k q a ok b → ok ≡ false
-    → C.product h.n (compact_of h theta a) (a q) ≡ none
+    → C.product h.n (compact_of h theta a) (a q) ≡ None
 missed {k = k} {b = b} r e = sym r.is ∙ ap (λ (t : Bool). given t (b k)) e
 
 -- the second product is one of the vectors before the first
@@ -152,14 +152,14 @@ pub product_kept : {h : Shape} {theta : Float} {q : ℕ} {a : Vecs} {ok : Bool} 
 product_kept k r l m = rw r.frame (scratch_upd k _ l m scratch_refl)
 
 module _ (h : Shape) (theta : Float) (b : Breaks) (p : Path) {v : Vecs} {s : Bool} (at : s ≡ still h.n (v vector_velocity)) where
-  pub segment_ends : {r : Bool} {w : Vecs} → s ≡ true → PathPoint h.n v r w → Segments (segment_at h theta b p v) v (S.Ended r) w
+  pub segment_ends : {r : Bool} {w : Vecs} → s ≡ true → PathPoint h.n v r w → Segments (segment_at h theta b p v) v (S.Break r) w
   segment_ends e q = record {
     is = ap D.Segment.ended (q.is p) ∙ sym (segment_point h.n (bounds_of v) (compact_of h theta v) (v vector_x) (v vector_g) (break_list b) (path_of p v) (sym at ∙ e));
     kept = q.kept;
   }
 
   module _ {ok₁ : Bool} {v₁ : Vecs} (moves : s ≡ false) (first : Multiplied h theta vector_product_d vector_velocity v ok₁ v₁) where
-    pub segment_fails₁ : not ok₁ ≡ true → Segments (segment_at h theta b p v) v (S.Ended false) v₁
+    pub segment_fails₁ : not ok₁ ≡ true → Segments (segment_at h theta b p v) v (S.Break false) v₁
     segment_fails₁ e = record {
       is =
           sym (segment_none₁ h.n (bounds_of v) (compact_of h theta v) (v vector_x) (v vector_g) (break_list b) (path_of p v) (sym at ∙ moves) (missed first (not-true ok₁ e)));
@@ -170,14 +170,14 @@ module _ (h : Shape) (theta : Float) (b : Breaks) (p : Path) {v : Vecs} {s : Boo
       both_kept : ScratchOnly v v₂
       both_kept = scratch_trans (product_kept vector_product_d first (omega arith) (omega arith)) (product_kept vector_product_z second (omega arith) (omega arith))
 
-      pub segment_fails₂ : not ok₂ ≡ true → Segments (segment_at h theta b p v) v (S.Ended false) v₂
+      pub segment_fails₂ : not ok₂ ≡ true → Segments (segment_at h theta b p v) v (S.Break false) v₂
       segment_fails₂ e = record {
         is = sym (segment_none₂ h.n (bounds_of v) (compact_of h theta v) (v vector_x) (v vector_g) (break_list b) (path_of p v) (v₁ vector_product_d) (sym at ∙ moves)
             (made first (not-false ok₁ good)) (sym (earlier first) ∙ missed second (not-true ok₂ e)));
         kept = both_kept;
       }
 
-      pub segment_goes : {slope curvature : Float} {r : Segment} {w : Vecs} → not ok₂ ≡ false
+      pub segment_goes : {slope curvature : Float} {r : ControlFlow Bool Path} {w : Vecs} → not ok₂ ≡ false
           → slope ≡ plus (dot h.n (v₂ vector_g) (v₂ vector_velocity)) (dot h.n (v₂ vector_product_z) (v₂ vector_velocity)) → curvature ≡ dot h.n (v₁ vector_velocity) (v₁ vector_product_d)
           → Segments (by_slope h.n (bounds_of v₂) (v₂ vector_x) (break_list b) (path_of p v₂) slope curvature) v₂ r w → Segments (segment_at h theta b p v) v r w
       segment_goes e f g q =
@@ -206,14 +206,13 @@ module _ (n : ℕ) (b : Bounds) (c : C.Compact) (x g : List Float) (bs : List Br
   walk_ended zero r = refl
   walk_ended (suc left) r = refl
 
-  walk_none : (left : ℕ) (p : D.Path) → left ≡ 0 → walk left n b c x g bs (D.Segment.onward p) ≡ none
+  walk_none : (p : D.Path) → walk 0 n b c x g bs (D.Segment.onward p) ≡ None
   unfolding walk
-  walk_none left p e = rw e refl
+  walk_none p = refl
 
-  walk_more : (left : ℕ) (p : D.Path) → (left ≡ 0 → ⊥) → walk left n b c x g bs (D.Segment.onward p) ≡ walk (left - 1) n b c x g bs (segment n b c x g bs p)
+  walk_more : (left : ℕ) (p : D.Path) → walk (suc left) n b c x g bs (D.Segment.onward p) ≡ walk left n b c x g bs (segment n b c x g bs p)
   unfolding walk
-  walk_more zero p h = absurd (h refl)
-  walk_more (suc left) p h = let e : suc left - 1 ≡ left = omega arith in rw e refl
+  walk_more left p = refl
 
 -- what is left of the walk with the vectors a, from a segment of it
 abbrev pub walk_at : Shape → Float → Breaks → Vecs → ℕ → D.Segment → Option (List Float)
@@ -228,55 +227,54 @@ segment_kept h theta b p {a} {v} k =
 
 -- the path p with the vectors v, and `left` segments more, are on their way from p₀ with a
 pub record Walking (h : Shape) (theta : Float) (b : Breaks) (left₀ : ℕ) (p₀ : Path) (a : Vecs) (left : ℕ) (p : Path) (v : Vecs) : Type 0 where
-  pub is : walk_at h theta b a left (segment_at h theta b p v) ≡ walk_at h theta b a left₀ (segment_at h theta b p₀ a)
+  pub is : walk_at h theta b a left (D.Segment.onward (path_of p v)) ≡ walk_at h theta b a left₀ (D.Segment.onward (path_of p₀ a))
   pub kept : ScratchOnly a v
 
-pub walking_none : {h : Shape} {theta : Float} {b : Breaks} {left : ℕ} {p : Path} {a : Vecs} → Walking h theta b left p a left p a
-walking_none = record { is = refl; kept = scratch_refl }
+-- with no segment left
+pub walking_stops : {h : Shape} {theta : Float} {b : Breaks} {left₀ : ℕ} {p₀ : Path} {a : Vecs} {left : ℕ} {p : Path} {v : Vecs}
+    → Walking h theta b left₀ p₀ a left p v → left ≡ 0 → Points (walk_at h theta b a left₀ (D.Segment.onward (path_of p₀ a))) a false v
+walking_stops {h} {theta} {b} {left₀} {p₀} {a} {left} {p} {v} here e = record {
+  is =
+      sym (walk_none h.n (bounds_of a) (compact_of h theta a) (a vector_x) (a vector_g) (break_list b) (path_of p v))
+      ∙ rw e at here.is;
+  kept = here.kept;
+}
 
-module _ {h : Shape} {theta : Float} {b : Breaks} {left₀ : ℕ} {p₀ : Path} {a : Vecs} {left : ℕ} {p : Path} {v : Vecs} {r : Segment} {w : Vecs}
-    (here : Walking h theta b left₀ p₀ a left p v) (next : Segments (segment_at h theta b p v) v r w) where
-  pub walking_more : (q : Path) → r ≡ S.Onward q → (left ≡ 0 → ⊥) → Walking h theta b left₀ p₀ a (left - 1) q w
-  walking_more q e l =
-      let k = scratch_trans here.kept next.kept in
-      record {
-        is =
-            ap (walk_at h theta b a (left - 1)) (segment_kept h theta b q k)
-            ∙ sym (walk_more h.n (bounds_of a) (compact_of h theta a) (a vector_x) (a vector_g) (break_list b) left (path_of q w) l)
-            ∙ ap (walk_at h theta b a left) (ap (λ (s : Segment). segment_of s w) (sym e) ∙ next.is)
-            ∙ here.is;
-        kept = k;
-      }
+module _ {h : Shape} {theta : Float} {b : Breaks} {left₀ : ℕ} {p₀ : Path} {a : Vecs} {left : ℕ} {p : Path} {v : Vecs} {r : ControlFlow Bool Path} {w : Vecs}
+    (here : Walking h theta b left₀ p₀ a left p v) (next : Segments (segment_at h theta b p v) v r w) (more : ℕ) (one : left ≡ suc more) where
+  -- what one segment makes of the walk
+  walking : walk_at h theta b a more (segment_of r w) ≡ walk_at h theta b a left₀ (D.Segment.onward (path_of p₀ a))
+  walking =
+      ap (walk_at h theta b a more) (next.is ∙ segment_kept h theta b p here.kept)
+      ∙ sym (walk_more h.n (bounds_of a) (compact_of h theta a) (a vector_x) (a vector_g) (break_list b) more (path_of p v))
+      ∙ (rw one at here.is)
 
-  pub walking_ends : (ok : Bool) → r ≡ S.Ended ok → Points (walk_at h theta b a left₀ (segment_at h theta b p₀ a)) a ok w
+  pub walking_more : (q : Path) → r ≡ S.Continue q → Walking h theta b left₀ p₀ a more q w
+  walking_more q e = record { is = rw e at walking; kept = scratch_trans here.kept next.kept }
+
+  pub walking_ends : (ok : Bool) → r ≡ S.Break ok → Points (walk_at h theta b a left₀ (D.Segment.onward (path_of p₀ a))) a ok w
   walking_ends ok e = record {
     is =
-        sym (walk_ended h.n (bounds_of a) (compact_of h theta a) (a vector_x) (a vector_g) (break_list b) left (given ok (w vector_cauchy)))
-        ∙ ap (walk_at h theta b a left) (ap (λ (s : Segment). segment_of s w) (sym e) ∙ next.is)
-        ∙ here.is;
-    kept = scratch_trans here.kept next.kept;
-  }
-
-  pub walking_stops : (q : Path) → r ≡ S.Onward q → left ≡ 0 → Points (walk_at h theta b a left₀ (segment_at h theta b p₀ a)) a false w
-  walking_stops q e l = record {
-    is =
-        sym (walk_none h.n (bounds_of a) (compact_of h theta a) (a vector_x) (a vector_g) (break_list b) left (path_of q w) l)
-        ∙ ap (walk_at h theta b a left) (ap (λ (s : Segment). segment_of s w) (sym e) ∙ next.is)
-        ∙ here.is;
+        sym (walk_ended h.n (bounds_of a) (compact_of h theta a) (a vector_x) (a vector_g) (break_list b) more (given ok (w vector_cauchy)))
+        ∙ rw e at walking;
     kept = scratch_trans here.kept next.kept;
   }
 
 -- the walk from its start
 pub walks : (h : Shape) (theta : Float) {b : Breaks} {p : Path} {v a : Vecs} {ok : Bool} {w : Vecs} → Found h.n v b → Begins h.n v p a
-    → Points (walk_at h theta b a (h.n + 1) (segment_at h theta b p a)) a ok w
+    → Points (walk_at h theta b a (h.n + 2) (D.Segment.onward (path_of p a))) a ok w
     → Points (generalized_cauchy h.n (bounds_of v) (compact_of h theta v) (v vector_x) (v vector_g)) v ok w
 unfolding generalized_cauchy
-walks h theta {b} {p} {v} {a} {ok} {w} f s q = record {
-  is =
-      q.is
-      ∙ ap (walk_at h theta b a (h.n + 1)) (segment_kept h theta b p s.kept)
-      ∙ (λ i. walk (h.n + 1) h.n (bounds_kept s.kept i) (compact_kept h theta v a s.kept.high i) (s.kept.low vector_x (omega arith) i)
-      (s.kept.low vector_g (omega arith) i) (f.is i)
-      (segment h.n (bounds_of v) (compact_of h theta v) (v vector_x) (v vector_g) (f.is i) (s.is i)));
-  kept = scratch_trans s.kept q.kept;
-}
+walks h theta {b} {p} {v} {a} {ok} {w} f s q =
+    let two : h.n + 2 ≡ suc (h.n + 1) = omega arith in
+    record {
+      is =
+          q.is
+          ∙ ap (λ (k : ℕ). walk_at h theta b a k (D.Segment.onward (path_of p a))) two
+          ∙ walk_more h.n (bounds_of a) (compact_of h theta a) (a vector_x) (a vector_g) (break_list b) (h.n + 1) (path_of p a)
+          ∙ (λ i. walk (h.n + 1) h.n (bounds_kept s.kept i) (compact_kept h theta v a s.kept.high i) (s.kept.low vector_x (omega arith) i)
+          (s.kept.low vector_g (omega arith) i) (f.is i)
+          (segment h.n (bounds_kept s.kept i) (compact_kept h theta v a s.kept.high i) (s.kept.low vector_x (omega arith) i)
+          (s.kept.low vector_g (omega arith) i) (f.is i) (s.is i)));
+      kept = scratch_trans s.kept q.kept;
+    }

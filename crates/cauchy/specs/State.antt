@@ -1,6 +1,8 @@
--- The projected path read off the area: its direction, displacement and met bounds are scratch vectors, its breaks an array with a count.
-use Rattle.std.specs.Prelude.{ℕ, zero, suc, ◌+◌, ◌≤◌, ◌<◌, ◌≡◌, Bool, cond, ◌&&◌, ◌||◌, List, [], ◌∷◌, map, length, take, get_or, set, Float}
-use Rattle.std.proofs.Math.Option.{Option}
+-- The projected path read off the area: its direction, displacement and met bounds are scratch vectors, its breaks a vector of fixed room.
+use Rattle.std.specs.Prelude.{ℕ, zero, suc, ◌≤◌, ◌<◌, ◌≡◌, Bool, cond, ◌&&◌, ◌||◌, List, [], ◌∷◌, map, length, get_or, set, Float}
+use Rattle.std.specs.Prelude.{Option}
+use Rattle.std.specs.declared.ops.ControlFlow.{ControlFlow}
+use Rattle.std.specs.declared.ops.ControlFlow.TheVariants.{Continue, Break}
 use Rattle.std.specs.Float.Ieee as Ieee
 use Rattle.std.specs.Float.{nan}
 use Rattle.std.specs.Float.Ieee.Scale.{finite}
@@ -11,8 +13,7 @@ use Rattle.area.specs.Area.{Vecs, bounds_of, rowwise, given, ScratchOnly, vector
 use Rattle.cauchy.specs.declared.BreakTime.{BreakTime}
 use Rattle.cauchy.specs.declared.Breaks.{Breaks}
 use Rattle.cauchy.specs.declared.Path.{Path}
-use Rattle.cauchy.specs.declared.Segment.{Segment}
-use Rattle.cauchy.specs.declared.Segment.TheVariants as S
+use Rattle.cauchy.specs.declared.Coordinate.{Coordinate}
 
 -- ---- break times
 
@@ -30,62 +31,60 @@ sift (suc k) bs t =
     let below = sift k (set bs (suc k) (get_or bs k no_break_time)) t in
     cond (total_le (get_or bs k no_break_time).time t.time) (set bs (suc k) t) below
 
--- the first `count` places of the array
 abbrev pub break_list : Breaks → List D.Break
-break_list b = map break_of (take b.count b.list)
+break_list b = map break_of b.list.items
 
 -- the times are in order, and none stands before m
 unfoldable pub Rising : ℕ → List D.Break → Type 0
 Rising m [] = Unit
 Rising m (b ∷ bs) = (m ≤ total_key b.time) × Rising (total_key b.time) bs
 
--- every coordinate is below n
-abbrev pub BreaksInRange : ℕ → Breaks → Type 0
-BreaksInRange n b = (k : ℕ) → k < b.count → (get_or b.list k no_break_time).coordinate < n
-
 -- breaks of n coordinates
 pub record Listed (n : ℕ) (b : Breaks) : Type 0 where
-  pub long : length b.list ≡ most_coordinates
-  pub few : b.count ≤ most_coordinates
-  pub within : BreaksInRange n b
+  pub within : (k : ℕ) → k < length b.list.items → (get_or b.list.items k no_break_time).coordinate < n
 
 -- breaks in order, with room for one more
 pub record Ordered (b : Breaks) : Type 0 where
-  pub long : length b.list ≡ most_coordinates
-  pub room : b.count < most_coordinates
+  pub room : length b.list.items < most_coordinates
   pub rising : Rising 0 (break_list b)
 
 -- r is b with t in its place
-pub record Inserted (b : Breaks) (t : BreakTime) (r : Breaks) : Type 0 where
-  pub long : length r.list ≡ most_coordinates
-  pub count : r.count ≡ b.count + 1
-  pub is : break_list r ≡ D.inserted (break_of t) (break_list b)
+abbrev pub Inserted : Breaks → BreakTime → Breaks → Type 0
+Inserted b t r = break_list r ≡ D.inserted (break_of t) (break_list b)
 
 -- r is b, and coordinate i with its time t where that is finite
-pub record Kept (b : Breaks) (t : Float) (i : ℕ) (r : Breaks) : Type 0 where
-  pub long : length r.list ≡ most_coordinates
-  pub count : r.count ≤ b.count + 1
-  pub is : break_list r ≡ cond (finite t) (D.inserted (record { time = t; coordinate = i }) (break_list b)) (break_list b)
+abbrev pub Kept : Breaks → Float → ℕ → Breaks → Type 0
+Kept b t i r = break_list r ≡ cond (finite t) (D.inserted (record { time = t; coordinate = i }) (break_list b)) (break_list b)
 
 -- r is all the breaks of n coordinates
 pub record Found (n : ℕ) (v : Vecs) (r : Breaks) : Type 0 where
   pub listed : Listed n r
   pub is : break_list r ≡ D.breaks_of n (bounds_of v) (v vector_x) (v vector_g)
 
--- the same from the words at one index of all the vectors
-abbrev pub moves_up_in : (ℕ → Float) → Bool
-moves_up_in w = Ieee.lt zero64 (Ieee.neg (w vector_g)) && Ieee.lt (w vector_x) (w vector_upper)
+-- the same of one coordinate
+abbrev pub moves_up_of : Coordinate → Bool
+moves_up_of k = Ieee.lt zero64 (Ieee.neg k.g) && Ieee.lt k.x k.upper
 
-abbrev pub moves_down_in : (ℕ → Float) → Bool
-moves_down_in w = Ieee.lt (Ieee.neg (w vector_g)) zero64 && Ieee.lt (w vector_lower) (w vector_x)
+abbrev pub moves_down_of : Coordinate → Bool
+moves_down_of k = Ieee.lt (Ieee.neg k.g) zero64 && Ieee.lt k.lower k.x
+
+abbrev pub velocity_of : Coordinate → Float
+velocity_of k = cond (moves_up_of k || moves_down_of k) (Ieee.neg k.g) zero64
+
+abbrev pub break_time_of : Coordinate → Float
+break_time_of k =
+    cond (moves_up_of k) (over (minus k.upper k.x) (Ieee.neg k.g))
+    (cond (moves_down_of k) (over (minus k.lower k.x) (Ieee.neg k.g)) infinity)
+
+-- and from the words at one index of all the vectors
+abbrev pub coordinate_of : (ℕ → Float) → Coordinate
+coordinate_of w = record { x = w vector_x; g = w vector_g; lower = w vector_lower; upper = w vector_upper }
 
 abbrev pub velocity_in : (ℕ → Float) → Float
-velocity_in w = cond (moves_up_in w || moves_down_in w) (Ieee.neg (w vector_g)) zero64
+velocity_in w = velocity_of (coordinate_of w)
 
 abbrev pub break_time_in : (ℕ → Float) → Float
-break_time_in w =
-    cond (moves_up_in w) (over (minus (w vector_upper) (w vector_x)) (Ieee.neg (w vector_g)))
-    (cond (moves_down_in w) (over (minus (w vector_lower) (w vector_x)) (Ieee.neg (w vector_g))) infinity)
+break_time_in w = break_time_of (coordinate_of w)
 
 abbrev pub bound_in : (ℕ → Float) → Float
 bound_in w = cond (Ieee.lt zero64 (w vector_velocity)) (w vector_upper) (w vector_lower)
@@ -127,10 +126,11 @@ pub record PathPoint (n : ℕ) (a : Vecs) (ok : Bool) (b : Vecs) : Type 0 where
   pub is : (p : Path) → given ok (b vector_cauchy) ≡ D.point_on_path n (bounds_of a) (a vector_x) (path_of p a)
   pub kept : ScratchOnly a b
 
-abbrev pub segment_of : Segment → Vecs → D.Segment
-segment_of (S.Ended ok) v = D.Segment.ended (given ok (v vector_cauchy))
-segment_of (S.Onward p) v = D.Segment.onward (path_of p v)
+-- a segment ends the path, with the Cauchy point of v or without, or leads on
+abbrev pub segment_of : ControlFlow Bool Path → Vecs → D.Segment
+segment_of (Break ok) v = D.Segment.ended (given ok (v vector_cauchy))
+segment_of (Continue p) v = D.Segment.onward (path_of p v)
 
-pub record Segments (F : D.Segment) (a : Vecs) (r : Segment) (b : Vecs) : Type 0 where
+pub record Segments (F : D.Segment) (a : Vecs) (r : ControlFlow Bool Path) (b : Vecs) : Type 0 where
   pub is : segment_of r b ≡ F
   pub kept : ScratchOnly a b

@@ -1,31 +1,35 @@
 // `generalized_cauchy`: break times, the projected path, and the Cauchy point on it.
 #![tactic(auto)]
 
-ghost use Rattle.std.specs.Prelude.{◌≡◌, ◌&&◌, ◌-◌, ◌*◌, ◌≤◌, ◌<◌, length, get_or};
+ghost use Rattle.std.specs.Prelude.{◌≡◌, ◌-◌, ◌*◌, ◌≤◌, ◌<◌, ◌&&◌, [], not, cond, length, get_or};
+ghost use Rattle.std.specs.List.{suffix_len};
 ghost use Rattle.std.specs.Float.Ieee as Ieee;
-ghost use Rattle.definition.specs.Number.{plus, total_le, zero64};
+ghost use Rattle.std.specs.Float.Ieee.Scale.{finite};
+ghost use Rattle.definition.specs.Number.{plus, total_le, clamp, zero64};
 ghost use Rattle.definition.specs.Vector.{dot as dot_of};
 ghost use Rattle.definition.specs.Problem.{most_coordinates};
-ghost use Rattle.definition.specs.Geometry.{no_break, stopped, stop_all, passed, generalized_cauchy};
+ghost use Rattle.definition.specs.Geometry.{no_break, stopped, stop_all, passed, stood_at, generalized_cauchy};
 ghost use Rattle.definition.specs.Geometry.{along as along_of, by_slope, still as still_of, segment as segment_of};
 ghost use Rattle.area.specs.Area.{view, words_at, bounds_of, rowwise, first_pair, vector_x, vector_g, vector_velocity, vector_product_z, vector_cauchy};
-ghost use Rattle.compact.specs.State.{Sound, Prepared, compact_of};
+ghost use Rattle.compact.specs.State.{Sound, Modelled, compact_of};
 ghost use Rattle.cauchy.specs.State.{no_break_time, sift, break_list, Listed, Ordered, Inserted, Kept, Found};
-ghost use Rattle.cauchy.specs.State.{moves_up_in, moves_down_in, velocity_in, break_time_in, bound_in, point_in, path_of};
+ghost use Rattle.cauchy.specs.State.{coordinate_of, moves_up_of, moves_down_of, velocity_of, break_time_of, velocity_in, point_in, path_of};
 ghost use Rattle.cauchy.specs.State.{travelled_of, Travels, Begins, Points, PathPoint, Segments};
 
+use arrayvec::ArrayVec;
+use std::ops::ControlFlow;
+
 // When a coordinate meets its bound.
-#[derive(Clone, Copy)]
+#[derive(Clone, Copy, Default, Drop)]
 pub struct BreakTime {
     pub time: f64,
     pub coordinate: usize,
 }
 
-// The finite break times, in order, in the first `count` places.
-#[derive(Clone, Copy)]
+// The finite break times, in order.
+#[derive(Drop)]
 pub struct Breaks {
-    pub list: [BreakTime; problem::MOST_COORDINATES],
-    pub count: usize,
+    pub list: ArrayVec<BreakTime, { problem::MOST_COORDINATES }>,
 }
 
 // The time of the last break passed, and how many are passed.
@@ -35,66 +39,87 @@ pub struct Path {
     pub event: usize,
 }
 
-// A segment ends the path, with the Cauchy point in its vector or without, or leads on.
+// What a coordinate's part of the path follows from.
 #[derive(Clone, Copy)]
-pub enum Segment {
-    Ended(bool),
-    Onward(Path),
+pub struct Coordinate {
+    pub x: f64,
+    pub g: f64,
+    pub lower: f64,
+    pub upper: f64,
+}
+
+// ---- one coordinate
+
+impl Coordinate {
+    // Whether it moves up, towards an upper bound that it is below.
+    fn moves_up(self) -> bool
+        ensures { result ≡ moves_up_of self }
+    {
+        0.0 < -self.g && self.x < self.upper
+    }
+
+    // Whether it moves down, towards a lower bound that it is above.
+    fn moves_down(self) -> bool
+        ensures { result ≡ moves_down_of self }
+    {
+        -self.g < 0.0 && self.lower < self.x
+    }
+
+    // The path's direction.
+    fn velocity(self) -> f64
+        ensures { result ≡ velocity_of self }
+    {
+        if self.moves_up() || self.moves_down() {
+            return -self.g;
+        }
+        0.0
+    }
+
+    // When it meets its bound: infinity where it does not move.
+    fn break_time(self) -> f64
+        ensures { result ≡ break_time_of self }
+    {
+        if self.moves_up() {
+            return (self.upper - self.x) / -self.g;
+        }
+        if self.moves_down() {
+            return (self.lower - self.x) / -self.g;
+        }
+        float::infinity()
+    }
+}
+
+// Coordinate i of the point held.
+fn coordinate_at(area: &[f64], n: usize, i: usize) -> Coordinate
+    requires { (first_pair * n ≤ length area.now) × (i < n) }
+    ensures { result ≡ coordinate_of (words_at area.now n i) }
+{
+    Coordinate {
+        x: area[area::X * n + i],
+        g: area[area::G * n + i],
+        lower: area[area::LOWER * n + i],
+        upper: area[area::UPPER * n + i],
+    }
+}
+
+// The bound that a coordinate moves to.
+fn bound_met(velocity: f64, lower: f64, upper: f64) -> f64
+    ensures { result ≡ cond (Ieee.lt zero64 velocity) upper lower }
+{
+    if 0.0 < velocity { upper } else { lower }
+}
+
+// The point at a coordinate: a bound that was met stands exactly.
+fn point(bound: f64, x: f64, lower: f64, upper: f64) -> f64
+    ensures { result ≡ stood_at bound (clamp x lower upper) }
+{
+    if !float::is_nan(bound) {
+        return bound;
+    }
+    float::clamp(x, lower, upper)
 }
 
 // ---- break times
-
-// Whether coordinate i moves up, towards an upper bound that it is below.
-fn moves_up(area: &[f64], n: usize, i: usize) -> bool
-    requires { (first_pair * n ≤ length area.now) × (i < n) }
-    ensures { result ≡ moves_up_in (words_at area.now n i) }
-{
-    if 0.0 < -area[area::G * n + i] {
-        return area[area::X * n + i] < area[area::UPPER * n + i];
-    }
-    false
-}
-
-// Whether coordinate i moves down, towards a lower bound that it is above.
-fn moves_down(area: &[f64], n: usize, i: usize) -> bool
-    requires { (first_pair * n ≤ length area.now) × (i < n) }
-    ensures { result ≡ moves_down_in (words_at area.now n i) }
-{
-    if -area[area::G * n + i] < 0.0 {
-        return area[area::LOWER * n + i] < area[area::X * n + i];
-    }
-    false
-}
-
-// The path's direction at coordinate i.
-fn velocity_at(area: &[f64], n: usize, i: usize) -> f64
-    requires { (first_pair * n ≤ length area.now) × (i < n) }
-    ensures { result ≡ velocity_in (words_at area.now n i) }
-{
-    if moves_up(area, n, i) {
-        return -area[area::G * n + i];
-    }
-    if moves_down(area, n, i) {
-        return -area[area::G * n + i];
-    }
-    0.0
-}
-
-// When coordinate i meets its bound: infinity where it does not move.
-fn break_time(area: &[f64], n: usize, i: usize) -> f64
-    requires { (first_pair * n ≤ length area.now) × (i < n) }
-    ensures { result ≡ break_time_in (words_at area.now n i) }
-{
-    let g = area[area::G * n + i];
-    let x = area[area::X * n + i];
-    if moves_up(area, n, i) {
-        return (area[area::UPPER * n + i] - x) / -g;
-    }
-    if moves_down(area, n, i) {
-        return (area[area::LOWER * n + i] - x) / -g;
-    }
-    float::infinity()
-}
 
 // Whether the other break stands before the entry, or level with it.
 fn not_later(other: BreakTime, entry: BreakTime) -> bool
@@ -103,25 +128,29 @@ fn not_later(other: BreakTime, entry: BreakTime) -> bool
     float::total_le(other.time, entry.time)
 }
 
+// How many breaks at the list's end are later than the entry.
+fn later(list: &[BreakTime], entry: BreakTime) -> usize
+    ensures { result ≡ suffix_len (λ other. not (total_le other.time entry.time)) list.now }
+{
+    list.iter()
+        .rev()
+        .take_while(|other| !not_later(**other, entry))
+        .count()
+}
+
 // A stable insertion in a lent list: the first `count` breaks are in order, and the entry goes behind those that are not later.
+// Kept: the break times are a lent slice, with this one insertion and one reader.
 fn insert_in(list: &mut [BreakTime], count: usize, entry: BreakTime)
     requires { count < length list.old }
     ensures { list.new ≡ sift count list.old entry }
 {
-    let mut place = count;
-    while 0 < place {
-        let j = place - 1;
-        let other = list[j];
-        if not_later(other, entry) {
-            break;
-        }
-        list[place] = other;
-        place = j;
-    }
+    let place = count - later(&list[..count], entry);
+    list.copy_within(place..count, place + 1);
     list[place] = entry;
 }
 
 // The break of a number from a lent list.
+// Kept: the one reader of the lent slice.
 fn break_at(list: &[BreakTime], i: usize) -> BreakTime
     requires { i < length list.now }
     ensures { result ≡ get_or list.now i no_break_time }
@@ -129,70 +158,44 @@ fn break_at(list: &[BreakTime], i: usize) -> BreakTime
     list[i]
 }
 
-// The insertion by value: it makes the reference, so that its callers need none.
-fn inserted(
-    list: [BreakTime; problem::MOST_COORDINATES],
-    count: usize,
-    entry: BreakTime,
-) -> [BreakTime; problem::MOST_COORDINATES]
-    requires { count < most_coordinates }
-    ensures { result ≡ sift count list entry }
-{
-    let mut longer = list;
-    insert_in(&mut longer, count, entry);
-    longer
-}
-
-// The reading by value.
-fn entry(list: [BreakTime; problem::MOST_COORDINATES], i: usize) -> BreakTime
-    requires { i < most_coordinates }
-    ensures { result ≡ get_or list i no_break_time }
-{
-    let lent = list;
-    break_at(&lent, i)
-}
-
-// One break more, in its place.
-fn with_break(breaks: Breaks, entry: BreakTime) -> Breaks
-    requires { Ordered breaks }
-    ensures { Inserted breaks entry result }
-{
-    let list = breaks.list;
-    let longer = inserted(list, breaks.count, entry);
-    Breaks {
-        list: longer,
-        count: breaks.count + 1,
+impl Breaks {
+    // No break.
+    fn new() -> Breaks
+        ensures { break_list result ≡ [] }
+    {
+        Breaks {
+            list: ArrayVec::new(),
+        }
     }
-}
 
-// A break time is kept where it is finite.
-fn with_time(breaks: Breaks, time: f64, i: usize) -> Breaks
-    requires { Ordered breaks }
-    ensures { Kept breaks time i result }
-{
-    if float::is_finite(time) {
-        return with_break(
-            breaks,
-            BreakTime {
-                time: time,
-                coordinate: i,
-            },
-        );
+    // One break more, in its place.
+    fn insert(&mut self, entry: BreakTime)
+        requires { Ordered self.old }
+        ensures { Inserted self.old entry self.new }
+    {
+        let count = self.list.len();
+        self.list.push(entry);
+        insert_in(self.list.as_mut_slice(), count, entry);
     }
-    breaks
-}
 
-// A place for each coordinate that there may be, of which none is used.
-fn no_breaks() -> Breaks
-    ensures { (length result.list ≡ most_coordinates) × (result.count ≡ 0) }
-{
-    let none = BreakTime {
-        time: 0.0,
-        coordinate: 0,
-    };
-    Breaks {
-        list: [none; problem::MOST_COORDINATES],
-        count: 0,
+    // A break time is kept where it is finite.
+    fn keep(&mut self, time: f64, coordinate: usize)
+        requires { Ordered self.old }
+        ensures { Kept self.old time coordinate self.new }
+    {
+        if float::is_finite(time) {
+            self.insert(BreakTime { time, coordinate });
+        }
+    }
+
+    // The time of the next break: infinity past the last.
+    fn next_time(&self, event: usize) -> f64
+        ensures { result ≡ (get_or (break_list self.now) event no_break).time }
+    {
+        if event < self.list.len() {
+            return break_at(self.list.as_slice(), event).time;
+        }
+        float::infinity()
     }
 }
 
@@ -201,36 +204,14 @@ fn find_breaks(area: &[f64], n: usize) -> Breaks
     requires { (first_pair * n ≤ length area.now) × (n ≤ most_coordinates) }
     ensures { Found n (view area.now n) result }
 {
-    let mut breaks = no_breaks();
-    let mut i = 0;
-    while i < n {
-        breaks = with_time(breaks, break_time(area, n, i), i);
-        i += 1;
+    let mut breaks = Breaks::new();
+    for i in 0..n {
+        breaks.keep(coordinate_at(area, n, i).break_time(), i);
     }
     breaks
 }
 
-// The time of the next break: infinity past the last.
-fn next_time(breaks: Breaks, event: usize) -> f64
-    requires { (length breaks.list ≡ most_coordinates) × (breaks.count ≤ most_coordinates) }
-    ensures { result ≡ (get_or (break_list breaks) event no_break).time }
-{
-    if event < breaks.count {
-        let list = breaks.list;
-        let entry = entry(list, event);
-        return entry.time;
-    }
-    float::infinity()
-}
-
 // ---- the path
-
-// What stands where no bound is met.
-fn no_bound() -> f64
-    ensures { result ≡ Ieee.nan }
-{
-    0.0 / 0.0
-}
 
 // The direction of every coordinate, in its vector.
 fn set_velocity(area: &mut [f64], n: usize)
@@ -238,10 +219,8 @@ fn set_velocity(area: &mut [f64], n: usize)
     ensures { view area.new n ≡ rowwise n vector_velocity (λ i w. velocity_in w) (view area.old n) }
 {
     let start = area::VELOCITY * n;
-    let mut i = 0;
-    while i < n {
-        area[start + i] = velocity_at(area, n, i);
-        i += 1;
+    for i in 0..n {
+        area[start + i] = coordinate_at(area, n, i).velocity();
     }
 }
 
@@ -252,7 +231,8 @@ fn begin_path(area: &mut [f64], n: usize) -> Path
 {
     set_velocity(area, n);
     area::fill(area, n, area::DISPLACEMENT, 0.0);
-    area::fill(area, n, area::ACTIVE, no_bound());
+    // Kept: the bounds met stand in a vector of the lent area, and a NaN, which no accepted bound is, says that none is met.
+    area::fill(area, n, area::ACTIVE, f64::NAN);
     Path {
         previous: 0.0,
         event: 0,
@@ -266,22 +246,9 @@ fn travel(area: &mut [f64], n: usize, time: f64)
 {
     let to_start = area::DISPLACEMENT * n;
     let from_start = area::VELOCITY * n;
-    let mut i = 0;
-    while i < n {
-        area[to_start + i] = area[to_start + i] + time * area[from_start + i];
-        i += 1;
+    for i in 0..n {
+        area[to_start + i] += time * area[from_start + i];
     }
-}
-
-// The bound that coordinate i moves to.
-fn bound_met(area: &[f64], n: usize, i: usize) -> f64
-    requires { (first_pair * n ≤ length area.now) × (i < n) }
-    ensures { result ≡ bound_in (words_at area.now n i) }
-{
-    if 0.0 < area[area::VELOCITY * n + i] {
-        return area[area::UPPER * n + i];
-    }
-    area[area::LOWER * n + i]
 }
 
 // Coordinate i stops at its bound.
@@ -289,61 +256,51 @@ fn stop(area: &mut [f64], n: usize, i: usize, path: Path) -> Path
     requires { (first_pair * n ≤ length area.old) × (i < n) × (path.event < most_coordinates) }
     ensures { let v = view area.old n in Travels (stopped (bounds_of v) (v vector_x) i) path v result (view area.new n) }
 {
-    let bound = bound_met(area, n, i);
-    let x = area::get(area, n, area::X, i);
+    let bound = bound_met(
+        area[area::VELOCITY * n + i],
+        area[area::LOWER * n + i],
+        area[area::UPPER * n + i],
+    );
+    let x = area[area::X * n + i];
     area::put(area, n, area::VELOCITY, i, 0.0);
     area::put(area, n, area::DISPLACEMENT, i, bound - x);
     area::put(area, n, area::ACTIVE, i, bound);
     Path {
-        previous: path.previous,
         event: path.event + 1,
+        ..path
     }
 }
 
 // Every break at the time stops its coordinate.
-fn stop_all(area: &mut [f64], n: usize, breaks: Breaks, time: f64, path: Path) -> Path
-    requires { (first_pair * n ≤ length area.old) × Listed n breaks }
+fn stop_all(area: &mut [f64], n: usize, breaks: &Breaks, time: f64, path: Path) -> Path
+    requires { (first_pair * n ≤ length area.old) × Listed n breaks.now }
     ensures { let v = view area.old n in
-        Travels (stop_all (breaks.count - path.event) (bounds_of v) (v vector_x) (break_list breaks) time) path v result (view area.new n) }
+        Travels (stop_all (length breaks.now.list.items - path.event) (bounds_of v) (v vector_x) (break_list breaks.now) time) path v result (view area.new n) }
 {
-    let list = breaks.list;
+    let list = breaks.list.as_slice();
     let mut reached = path;
-    while reached.event < breaks.count {
-        let entry = entry(list, reached.event);
-        if entry.time == time {
-            reached = stop(area, n, entry.coordinate, reached);
-        } else {
+    for event in path.event..list.len() {
+        let entry = break_at(list, event);
+        if entry.time != time {
             return reached;
         }
+        reached = stop(area, n, entry.coordinate, reached);
     }
     reached
 }
 
 // Past the segment that ends at the time.
-fn pass(area: &mut [f64], n: usize, breaks: Breaks, time: f64, path: Path) -> Path
-    requires { (first_pair * n ≤ length area.old) × Listed n breaks }
+fn pass(area: &mut [f64], n: usize, breaks: &Breaks, time: f64, path: Path) -> Path
+    requires { (first_pair * n ≤ length area.old) × Listed n breaks.now }
     ensures { let v = view area.old n in
-        Travels (passed n (bounds_of v) (v vector_x) (break_list breaks) time) path v result (view area.new n) }
+        Travels (passed n (bounds_of v) (v vector_x) (break_list breaks.now) time) path v result (view area.new n) }
 {
     travel(area, n, time - path.previous);
     let reached = stop_all(area, n, breaks, time, path);
     Path {
         previous: time,
-        event: reached.event,
+        ..reached
     }
-}
-
-// The point at coordinate i: a bound that was met stands exactly.
-fn point_at(area: &[f64], n: usize, i: usize) -> f64
-    requires { (first_pair * n ≤ length area.now) × (i < n) }
-    ensures { result ≡ point_in (words_at area.now n i) }
-{
-    let bound = area[area::ACTIVE * n + i];
-    let x = area[area::X * n + i] + area[area::DISPLACEMENT * n + i];
-    if !float::is_nan(bound) {
-        return bound;
-    }
-    float::clamp(x, area[area::LOWER * n + i], area[area::UPPER * n + i])
 }
 
 // The point of every coordinate.
@@ -352,14 +309,19 @@ fn put_point(area: &mut [f64], n: usize)
     ensures { view area.new n ≡ rowwise n vector_cauchy (λ i w. point_in w) (view area.old n) }
 {
     let start = area::CAUCHY * n;
-    let mut i = 0;
-    while i < n {
-        area[start + i] = point_at(area, n, i);
-        i += 1;
+    for i in 0..n {
+        let x = area[area::X * n + i] + area[area::DISPLACEMENT * n + i];
+        area[start + i] = point(
+            area[area::ACTIVE * n + i],
+            x,
+            area[area::LOWER * n + i],
+            area[area::UPPER * n + i],
+        );
     }
 }
 
 // `point_on_path`, if it is finite.
+// Kept: the point stands in the lent area, so a bool says whether there is one.
 fn point_on_path(area: &mut [f64], n: usize) -> bool
     requires { first_pair * n ≤ length area.old }
     ensures { PathPoint n (view area.old n) result (view area.new n) }
@@ -370,78 +332,66 @@ fn point_on_path(area: &mut [f64], n: usize) -> bool
 
 // ---- segments
 
-// Zero so far, and here.
-fn both_zero(ok: bool, x: f64) -> bool
-    ensures { result ≡ (ok && Ieee.eq x zero64) }
-{
-    if ok { x == 0.0 } else { false }
-}
-
 // Whether no coordinate moves.
 fn still(area: &[f64], n: usize) -> bool
     requires { first_pair * n ≤ length area.now }
     ensures { result ≡ still_of n (view area.now n vector_velocity) }
 {
     let start = area::VELOCITY * n;
-    let mut ok = true;
-    let mut i = 0;
-    while i < n {
-        ok = both_zero(ok, area[start + i]);
-        i += 1;
-    }
-    ok
+    area[start..start + n].iter().all(|x| *x == 0.0)
 }
 
 // With a slope below zero and a curvature above: a minimum inside the segment, or on to its end.
 fn along(
     area: &mut [f64],
     n: usize,
-    breaks: Breaks,
+    breaks: &Breaks,
     path: Path,
     next: f64,
     minimizer: f64,
-) -> Segment
-    requires { (first_pair * n ≤ length area.old) × Listed n breaks }
+) -> ControlFlow<bool, Path>
+    requires { (first_pair * n ≤ length area.old) × Listed n breaks.now }
     ensures { let v = view area.old n in
-        Segments (along_of n (bounds_of v) (v vector_x) (break_list breaks) (path_of path v) next minimizer) v result (view area.new n) }
+        Segments (along_of n (bounds_of v) (v vector_x) (break_list breaks.now) (path_of path v) next minimizer) v result (view area.new n) }
 {
     if !float::is_finite(minimizer) {
-        return Segment::Ended(false);
+        return ControlFlow::Break(false);
     }
     if minimizer < next - path.previous {
         travel(area, n, minimizer);
-        return Segment::Ended(point_on_path(area, n));
+        return ControlFlow::Break(point_on_path(area, n));
     }
-    Segment::Onward(pass(area, n, breaks, next, path))
+    ControlFlow::Continue(pass(area, n, breaks, next, path))
+}
+
+// Whether slope and curvature are finite, and the curvature lies above zero.
+fn is_usable(slope: f64, curvature: f64) -> bool
+    ensures { result ≡ (finite slope && finite curvature && Ieee.lt zero64 curvature) }
+{
+    float::is_finite(slope) && float::is_finite(curvature) && 0.0 < curvature
 }
 
 // The curvature must lie above zero; a slope that does not fall ends the path.
 fn by_slope(
     area: &mut [f64],
     n: usize,
-    breaks: Breaks,
+    breaks: &Breaks,
     path: Path,
     slope: f64,
     curvature: f64,
-) -> Segment
-    requires { (first_pair * n ≤ length area.old) × Listed n breaks }
+) -> ControlFlow<bool, Path>
+    requires { (first_pair * n ≤ length area.old) × Listed n breaks.now }
     ensures { let v = view area.old n in
-        Segments (by_slope n (bounds_of v) (v vector_x) (break_list breaks) (path_of path v) slope curvature) v result (view area.new n) }
+        Segments (by_slope n (bounds_of v) (v vector_x) (break_list breaks.now) (path_of path v) slope curvature) v result (view area.new n) }
 {
-    if !float::is_finite(slope) {
-        return Segment::Ended(false);
+    if !is_usable(slope, curvature) {
+        return ControlFlow::Break(false);
     }
-    if !float::is_finite(curvature) {
-        return Segment::Ended(false);
+    if 0.0 <= slope {
+        return ControlFlow::Break(point_on_path(area, n));
     }
-    if 0.0 < curvature {
-        if 0.0 <= slope {
-            return Segment::Ended(point_on_path(area, n));
-        }
-        let next = next_time(breaks, path.event);
-        return along(area, n, breaks, path, next, -slope / curvature);
-    }
-    Segment::Ended(false)
+    let next = breaks.next_time(path.event);
+    along(area, n, breaks, path, next, -slope / curvature)
 }
 
 // The slope along the path, with B z in its vector.
@@ -454,99 +404,55 @@ fn slope(area: &[f64], n: usize) -> f64
     first + second
 }
 
-// One segment of the path.
+// One segment of the path: it ends the path, with the Cauchy point in its vector or without, or leads on.
 fn segment_from(
     area: &mut [f64],
-    shape: compact::Shape,
-    theta: f64,
-    found: bool,
-    rows: &[[f64; 32]; 32],
-    multipliers: &[[f64; 32]; 32],
-    order: &[usize; 32],
-    breaks: Breaks,
+    model: &compact::Model,
+    breaks: &Breaks,
     path: Path,
-) -> Segment
-    requires { Sound shape (length area.old) × Prepared shape theta found rows.now multipliers.now order.now (view area.old shape.n)
-        × Listed shape.n breaks }
-    ensures { let v = view area.old shape.n in
-        Segments (segment_of shape.n (bounds_of v) (compact_of shape theta v) (v vector_x) (v vector_g) (break_list breaks) (path_of path v)) v result
-        (view area.new shape.n) }
+) -> ControlFlow<bool, Path>
+    requires { let h = model.now.shape in
+        Sound h (length area.old) × Modelled model.now (view area.old h.n) × Listed h.n breaks.now }
+    ensures { let h = model.now.shape in
+        let v = view area.old h.n in
+        Segments (segment_of h.n (bounds_of v) (compact_of h model.now.theta v) (v vector_x) (v vector_g) (break_list breaks.now) (path_of path v)) v result
+        (view area.new h.n) }
 {
-    if still(area, shape.n) {
-        return Segment::Ended(point_on_path(area, shape.n));
+    let n = model.shape.n;
+    if still(area, n) {
+        return ControlFlow::Break(point_on_path(area, n));
     }
-    if !compact::product(
-        area,
-        shape,
-        theta,
-        found,
-        rows,
-        multipliers,
-        order,
-        area::PRODUCT_D,
-        area::VELOCITY,
-    ) {
-        return Segment::Ended(false);
+    if !compact::product(area, model, area::PRODUCT_D, area::VELOCITY) {
+        return ControlFlow::Break(false);
     }
-    let curvature = area::dot(area, shape.n, area::VELOCITY, area::PRODUCT_D);
-    if !compact::product(
-        area,
-        shape,
-        theta,
-        found,
-        rows,
-        multipliers,
-        order,
-        area::PRODUCT_Z,
-        area::DISPLACEMENT,
-    ) {
-        return Segment::Ended(false);
+    let curvature = area::dot(area, n, area::VELOCITY, area::PRODUCT_D);
+    if !compact::product(area, model, area::PRODUCT_Z, area::DISPLACEMENT) {
+        return ControlFlow::Break(false);
     }
-    let slope = slope(area, shape.n);
-    by_slope(area, shape.n, breaks, path, slope, curvature)
+    let slope = slope(area, n);
+    by_slope(area, n, breaks, path, slope, curvature)
 }
 
 // The Cauchy point in its vector, where there is one: at most n + 1 segments lead on.
-pub fn generalized_cauchy(
-    area: &mut [f64],
-    shape: compact::Shape,
-    theta: f64,
-    found: bool,
-    rows: &[[f64; 32]; 32],
-    multipliers: &[[f64; 32]; 32],
-    order: &[usize; 32],
-) -> bool
-    requires { Sound shape (length area.old) × Prepared shape theta found rows.now multipliers.now order.now (view area.old shape.n)
-        × (shape.n ≤ most_coordinates) }
-    ensures { let v = view area.old shape.n in
-        Points (generalized_cauchy shape.n (bounds_of v) (compact_of shape theta v) (v vector_x) (v vector_g)) v result (view area.new shape.n) }
+pub fn generalized_cauchy(area: &mut [f64], model: &compact::Model) -> bool
+    requires { let h = model.now.shape in
+        Sound h (length area.old) × Modelled model.now (view area.old h.n) × (h.n ≤ most_coordinates) }
+    ensures { let h = model.now.shape in
+        let v = view area.old h.n in
+        Points (generalized_cauchy h.n (bounds_of v) (compact_of h model.now.theta v) (v vector_x) (v vector_g)) v result (view area.new h.n) }
 {
-    let breaks = find_breaks(area, shape.n);
-    let mut path = begin_path(area, shape.n);
-    let mut remaining = shape.n + 1;
-    loop {
-        let segment = segment_from(
-            area,
-            shape,
-            theta,
-            found,
-            rows,
-            multipliers,
-            order,
-            breaks,
-            path,
-        );
-        match segment {
-            Segment::Ended(ok) => {
+    let n = model.shape.n;
+    let breaks = find_breaks(area, n);
+    let mut path = begin_path(area, n);
+    for _ in 0..n + 2 {
+        match segment_from(area, model, &breaks, path) {
+            ControlFlow::Break(ok) => {
                 return ok;
             }
-            Segment::Onward(reached) => {
-                if remaining == 0 {
-                    return false;
-                }
+            ControlFlow::Continue(reached) => {
                 path = reached;
-                remaining -= 1;
             }
         }
     }
+    false
 }

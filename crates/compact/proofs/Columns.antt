@@ -1,25 +1,26 @@
 -- Laws of the columns of W: laid out one by one, multiplied with a vector, and subtracted from one. Assumes nothing.
 use mathlib.Core.Path.{◌≡◌, refl, sym, ap, ◌∙◌}
-use mathlib.Core.Bool.{Bool, true, false, not}
+use mathlib.Core.Bool.{Bool, false}
 use mathlib.Core.List.{List}
-use mathlib.Core.Option.{Option, some}
+use Rattle.std.specs.Prelude.{None, Some}
 use Prim.Native.Nat.{ℕ, ◌+◌, ◌-◌, ◌*◌, ◌≤◌, ◌<◌}
 use native.Mathlib.Numerals.{add-one}
 use native.Mathlib.Omega.{arith}
 use borrow.Author.Count.{below_more}
-use borrow.Author.Tests.{lt-ltb, le-ltb, eq-eqb, ne_eqb, not-true, not-false}
+use borrow.Author.Tests.{lt-ltb, le-ltb, eq-eqb, ne_eqb}
 use lib.ListN.{length}
 use lib.Ieee.{Float, nan}
 use Rattle.definition.specs.Number.{plus, minus, times, neg_zero}
 use Rattle.definition.specs.Vector.{tab, word, fold_to, dot, all_finite, finite_only}
-use Rattle.definition.specs.Solve.{Matrix, solve}
-use Rattle.definition.specs.Compact.{Compact, pair_of, column_word, column_dot, zero_row, block, right_side, weights, less_word, product}
-use Rattle.area.specs.Area.{Vecs, upd, copy_of, view, rowwise, given, first_pair}
+use Rattle.definition.specs.Solve.{solve}
+use Rattle.definition.specs.Compact.{Compact, pair_of, column_word, column_dot, zero_row, right_side, weights, less_word, product}
+use Rattle.area.specs.Area.{Vecs, upd, copy_of, view, rowwise, first_pair}
 use Rattle.area.proofs.Laws.{length-view, upd_other}
-use Rattle.solve.specs.Factors.{solved_with}
+use Rattle.solve.specs.Factors.{solved_by}
 use Rattle.solve.proofs.Steps.{factors_solve}
 use Rattle.compact.specs.declared.Shape.{Shape}
-use Rattle.compact.specs.State.{column_slot, pairs_of, compact_of, Sound, Slot, Laid, PairsKept, Modelled, Prepared, Multiplied, less_to}
+use Rattle.compact.specs.declared.Model.{Model}
+use Rattle.compact.specs.State.{column_slot, pairs_of, compact_of, Sound, Slot, Laid, PairsKept, Modelled, Multiplied, less_to}
 use Rattle.compact.proofs.Laws.{tab-get, tab_same, tab-word, fold_same, pairs_count, upd_same, upd_twice, upd_none, given_is}
 use Rattle.compact.proofs.Models.{compact_laid}
 
@@ -34,19 +35,19 @@ s_column : (h : Shape) (theta : Float) (v : Vecs) (k i : ℕ) → h.pairs ≤ k
 unfolding column_word
 s_column h theta v k i l = rw (pairs_count h v, le-ltb k h.pairs l)
 
-pub y_laid : (h : Shape) (theta : Float) (a : List Float) (k p to : ℕ) (b : Vecs) → k < h.pairs → Slot h k p (length a) → to ≡ column_slot h k
+pub y_laid : (h : Shape) (theta : Float) (a : List Float) (k p to : ℕ) (b : Vecs) → k < h.pairs → Sound h (length a) → Slot h k p → to ≡ column_slot h k
     → b ≡ copy_of to (p + 1) (view a h.n)
     → b ≡ upd (view a h.n) (column_slot h k) (tab h.n (column_word (compact_of h theta (view a h.n)) k))
-y_laid h theta a k p to b l s d e =
+y_laid h theta a k p to b l o s d e =
     let v = view a h.n in
     e
     ∙ ap (λ (j : ℕ). copy_of j (p + 1) v) d
     ∙ ap (upd v (column_slot h k))
-    (sym (tab-word h.n (v (p + 1)) (length-view a h.n (p + 1) s.second))
+    (sym (tab-word h.n (v (p + 1)) (length-view a h.n (p + 1) (s.second _ o)))
     ∙ ap (λ (y : List Float). tab h.n (word y)) (s.y v)
     ∙ (λ t. tab h.n (λ (i : ℕ). sym (y_column h theta v k i l) t)))
 
-pub s_laid : (h : Shape) (theta : Float) (a : List Float) (k p to : ℕ) (b : Vecs) → h.pairs ≤ k → Slot h (k - h.pairs) p (length a) → to ≡ column_slot h k
+pub s_laid : (h : Shape) (theta : Float) (a : List Float) (k p to : ℕ) (b : Vecs) → h.pairs ≤ k → Slot h (k - h.pairs) p → to ≡ column_slot h k
     → b ≡ rowwise h.n to (λ (i : ℕ) w. times theta (w p)) (view a h.n)
     → b ≡ upd (view a h.n) (column_slot h k) (tab h.n (column_word (compact_of h theta (view a h.n)) k))
 unfolding rowwise
@@ -165,22 +166,16 @@ lessened_done {h} {theta} {z} {p} {k} {o} {a} {b} q w g e r l =
 
 -- ---- products with B
 
--- the code's way to the weights
-weighed : (h : Shape) (theta : Float) (v : Vecs) (q : ℕ) (m : Matrix) (y : List Float) (r : Option (List Float)) → (h.pairs ≡ 0 → ⊥) → Modelled h theta m v
-    → y ≡ right_side h.n (compact_of h theta v) (v q) → r ≡ solve (2 * h.pairs) m y → r ≡ weights h.n (compact_of h theta v) (v q)
+-- the weights by the factors
+pub weighed : (w : Model) (v : Vecs) (q : ℕ) (y : List Float) → (w.shape.pairs ≡ 0 → ⊥) → Modelled w v
+    → y ≡ right_side w.shape.n (compact_of w.shape w.theta v) (v q)
+    → solved_by (2 * w.shape.pairs) w.factors y ≡ weights w.shape.n (compact_of w.shape w.theta v) (v q)
 unfolding weights
-weighed h theta v q m y r d e f g =
-    rw (pairs_count h v, ne_eqb h.pairs 0 d)
-    (g ∙ (λ i. solve (2 * h.pairs) (rw (pairs_count h v) at e.block i) (rw (pairs_count h v) at f i)))
+weighed w v q y d e f =
+    rw (pairs_count w.shape v, ne_eqb w.shape.pairs 0 d)
+    (factors_solve y e.factors ∙ (λ i. solve (2 * w.shape.pairs) (rw (pairs_count w.shape v) at e.block i) (rw (pairs_count w.shape v) at f i)))
 
-pub weighed_with : {h : Shape} {theta : Float} {v : Vecs} {ok : Bool} {t f : Matrix} {p : List ℕ} (q : ℕ) (y : List Float) (r : Option (List Float))
-    → (h.pairs ≡ 0 → ⊥)
-    → Prepared h theta ok t f p v → y ≡ right_side h.n (compact_of h theta v) (v q) → r ≡ solved_with (2 * h.pairs) ok t f p y
-    → r ≡ weights h.n (compact_of h theta v) (v q)
-weighed_with {h} {theta} {v} q y r d e f g =
-    weighed h theta v q (block h.n (compact_of h theta v)) y r d (record { laid = e.laid; block = refl }) f (g ∙ factors_solve y e.factors)
-
-pub unweighed : (h : Shape) (theta : Float) (v : Vecs) (q : ℕ) → h.pairs ≡ 0 → some zero_row ≡ weights h.n (compact_of h theta v) (v q)
+pub unweighed : (h : Shape) (theta : Float) (v : Vecs) (q : ℕ) → h.pairs ≡ 0 → Some zero_row ≡ weights h.n (compact_of h theta v) (v q)
 unfolding weights
 unweighed h theta v q e = rw (pairs_count h v, eq-eqb h.pairs 0 e)
 
@@ -189,21 +184,19 @@ less_all : (h : Shape) (theta : Float) (v : Vecs) (z w : List Float) (i : ℕ)
 unfolding less_word
 less_all h theta v z w i = rw (pairs_count h v)
 
-pub no_product : (h : Shape) (theta : Float) (p q : ℕ) (a : Vecs) (ok : Bool) (z : List Float)
-    → given ok z ≡ weights h.n (compact_of h theta a) (a q) → not ok ≡ true → Multiplied h theta p q a false a
+pub no_product : (h : Shape) (theta : Float) (p q : ℕ) (a : Vecs) → None ≡ weights h.n (compact_of h theta a) (a q) → Multiplied h theta p q a false a
 unfolding product
-no_product h theta p q a ok z e t = record { is = rw (← e, not-true ok t); frame = upd_none a p (a p) refl }
+no_product h theta p q a e = record { is = rw (← e); frame = upd_none a p (a p) refl }
 
-pub with_product : (h : Shape) (theta : Float) (p q : ℕ) (a b : Vecs) (ok : Bool) (z : List Float) (r : Bool)
-    → given ok z ≡ weights h.n (compact_of h theta a) (a q) → not ok ≡ false
+pub with_product : (h : Shape) (theta : Float) (p q : ℕ) (a b : Vecs) (z : List Float) (r : Bool) → Some z ≡ weights h.n (compact_of h theta a) (a q)
     → b ≡ upd a p (tab h.n (less_to (compact_of h theta a) z (a q) (2 * h.pairs))) → r ≡ all_finite h.n (b p) → Multiplied h theta p q a r b
 unfolding product
-with_product h theta p q a b ok z r e t f g =
+with_product h theta p q a b z r e f g =
     let x = tab h.n (less_to (compact_of h theta a) z (a q) (2 * h.pairs)) in
     let s : b p ≡ x = (λ i. f i p) ∙ upd_same a p x in
     record {
       is =
-          rw (← e, not-false ok t, g, s)
+          rw (← e, g, s)
           (given_is (all_finite h.n x) x ∙ ap (finite_only h.n) (λ j. tab h.n (λ (i : ℕ). less_all h theta a z (a q) i j)));
       frame = f ∙ ap (upd a p) (sym s);
     }

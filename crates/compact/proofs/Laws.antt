@@ -2,7 +2,7 @@
 use mathlib.Core.Path.{◌≡◌, refl, sym, ap, ◌∙◌}
 use mathlib.Core.Bool.{Bool, true, false, cond}
 use mathlib.Core.List.{List, [], ◌∷◌, ◌++◌}
-use mathlib.Core.Option.{none, some}
+use Rattle.std.specs.Prelude.{None, Some}
 use Prim.Native.Nat.{ℕ, zero, suc, ◌+◌, ◌-◌, ◌*◌, ◌≤◌, ◌<◌}
 use native.Mathlib.Nat.{le_of_suc-le-suc, zero-lt-suc}
 use native.Mathlib.Numerals.{add-one}
@@ -71,7 +71,7 @@ upd_none s p v e = λ i j. at j (eqb j p) refl i
     at j true d = ap s (eqb-true j p d) ∙ e
     at j false d = refl
 
-pub given_is : (t : Bool) (v : List Float) → given t v ≡ cond t (some v) none
+pub given_is : (t : Bool) (v : List Float) → given t v ≡ cond t (Some v) None
 given_is true v = refl
 given_is false v = refl
 
@@ -136,15 +136,15 @@ pub pair_at_lem : (h : Shape) (v : Vecs) (k : ℕ) → k < h.pairs → pair_of (
 unfolding pairs_of
 pair_at_lem h v k l = tab-get h.pairs (pair_at h v) k (record { s = []; y = [] }) l
 
-pub slot_is : (h : Shape) (k r size : ℕ) → Sound h size → k < h.pairs → r ≡ pair_slot h k → Slot h k r size
-slot_is h k r size s l e =
-    let g = place_below k _ s (omega arith) refl in
+pub slot_is : (h : Shape) (k r : ℕ) → k < h.pairs → h.pairs ≤ h.m → h.oldest < h.m → r ≡ pair_slot h k → Slot h k r
+slot_is h k r l top ring e =
+    let g = wrap_below h.m (h.oldest + k) (omega arith) in
     record {
       is = e;
       s = λ v. rw (pair_at_lem h v k l) (ap v e);
       y = λ v. rw (pair_at_lem h v k l) (ap (λ (j : ℕ). v (j + 1)) e);
-      first = room r (vectors h.m) h.n size (omega arith) s.all;
-      second = room (r + 1) (vectors h.m) h.n size (omega arith) s.all;
+      first = λ size s. room r (vectors h.m) h.n size (omega arith) s.all;
+      second = λ size s. room (r + 1) (vectors h.m) h.n size (omega arith) s.all;
       low = omega arith;
     }
 

@@ -1,5 +1,5 @@
 -- What later crates need of a model: it stays while the vectors from the pairs on stay, and its entries. Assumes nothing.
-use mathlib.Core.Path.{◌≡◌, refl, sym, ap, subst, ◌∙◌}
+use mathlib.Core.Path.{◌≡◌, refl, sym, ap, ◌∙◌}
 use mathlib.Core.Bool.{Bool}
 use mathlib.Core.List.{List, []}
 use Prim.Native.Nat.{ℕ, ◌+◌, ◌*◌, ◌≤◌, ◌<◌}
@@ -11,9 +11,9 @@ use Rattle.definition.specs.Solve.{Matrix, entry}
 use Rattle.definition.specs.Compact as C
 use Rattle.area.specs.Area.{Vecs, upd, first_free, first_pair, ScratchOnly}
 use Rattle.area.proofs.Laws.{upd_other}
-use Rattle.solve.specs.Factors.{Factored}
 use Rattle.compact.specs.declared.Shape.{Shape}
-use Rattle.compact.specs.State.{pair_slot, column_slot, pair_at, pairs_of, compact_of, Sound, Laid, PairsKept, Modelled, Prepared, Multiplied}
+use Rattle.compact.specs.declared.Model.{Model}
+use Rattle.compact.specs.State.{pair_slot, column_slot, pair_at, pairs_of, compact_of, Sound, Laid, PairsKept, Modelled, Multiplied}
 use Rattle.compact.proofs.Laws.{tab_same, pairs_count, padded-get, place_below}
 
 -- every vector from the pairs on is as it was
@@ -36,25 +36,11 @@ laid_kept {h} {theta} {a} b k r = record {
   is = λ j l. k (column_slot h j) (omega arith) ∙ r.is j l ∙ ap (λ (c : C.Compact). tab h.n (C.column_word c j)) (sym (compact_kept h theta a b k));
 }
 
-pub modelled_kept : {h : Shape} {theta : Float} {m : Matrix} {a : Vecs} (b : Vecs) → HighKept a b → Modelled h theta m a → Modelled h theta m b
-modelled_kept {h} {theta} {m} {a} b k r = record {
+pub modelled_kept : {w : Model} {a : Vecs} (b : Vecs) → HighKept a b → Modelled w a → Modelled w b
+modelled_kept {w} {a} b k r = record {
   laid = laid_kept b k r.laid;
-  block = r.block ∙ ap (C.block h.n) (sym (compact_kept h theta a b k));
-}
-
-pub prepared_kept : {h : Shape} {theta : Float} {ok : Bool} {t f : Matrix} {p : List ℕ} {a : Vecs} (b : Vecs) → HighKept a b
-    → Prepared h theta ok t f p a → Prepared h theta ok t f p b
-prepared_kept {h} {theta} {ok} {t} {f} {p} {a} b k r = record {
-  laid = laid_kept b k r.laid;
-  factors = subst (λ (c : C.Compact). Factored (2 * h.pairs) (C.block h.n c) ok t f p) (sym (compact_kept h theta a b k)) r.factors;
-}
-
--- the block factored
-pub prepared : {h : Shape} {theta : Float} {m : Matrix} {ok : Bool} {t f : Matrix} {p : List ℕ} {v : Vecs} → Modelled h theta m v
-    → Factored (2 * h.pairs) m ok t f p → Prepared h theta ok t f p v
-prepared {h} {ok = ok} {t = t} {f = f} {p = p} r e = record {
-  laid = r.laid;
-  factors = subst (λ (b : Matrix). Factored (2 * h.pairs) b ok t f p) r.block e;
+  block = r.block ∙ ap (C.block w.shape.n) (sym (compact_kept w.shape w.theta a b k));
+  factors = r.factors;
 }
 
 -- the vectors below the columns kept, as where the columns are laid out
@@ -74,9 +60,8 @@ pairs_upd h a p v l = pairs_kept h a (upd a p v) (high_upd a p v l)
 pub compact_upd : (h : Shape) (theta : Float) (a : Vecs) (p : ℕ) (v : List Float) → p < first_pair → compact_of h theta (upd a p v) ≡ compact_of h theta a
 compact_upd h theta a p v l = compact_kept h theta a (upd a p v) (high_upd a p v l)
 
-pub prepared_upd : {h : Shape} {theta : Float} {ok : Bool} {t f : Matrix} {o : List ℕ} {a : Vecs} (p : ℕ) (v : List Float) → p < first_pair
-    → Prepared h theta ok t f o a → Prepared h theta ok t f o (upd a p v)
-prepared_upd {a = a} p v l r = prepared_kept (upd a p v) (high_upd a p v l) r
+pub modelled_upd : {w : Model} {a : Vecs} (p : ℕ) (v : List Float) → p < first_pair → Modelled w a → Modelled w (upd a p v)
+modelled_upd {a = a} p v l r = modelled_kept (upd a p v) (high_upd a p v l) r
 
 -- after a product into one of the first sixteen
 pub multiplied_high : {h : Shape} {theta : Float} {p q : ℕ} {a b : Vecs} {ok : Bool} → p < first_pair → Multiplied h theta p q a ok b → HighKept a b
@@ -95,8 +80,8 @@ block_entry_lem n c i j k l =
     ap (λ (r : List Float). word r j) (padded-get C.zero_row (2 * C.count c) (λ (i : ℕ). C.padded zero64 (2 * C.count c) (C.block_entry n c i)) i [] k)
     ∙ padded-get zero64 (2 * C.count c) (C.block_entry n c i) j nan l
 
-pub modelled_entry : {h : Shape} {theta : Float} {m : Matrix} {v : Vecs} (i j : ℕ) → Modelled h theta m v → i < 2 * h.pairs → j < 2 * h.pairs
-    → entry m i j ≡ C.block_entry h.n (compact_of h theta v) i j
-modelled_entry {h} {theta} {m} {v} i j r k l =
+pub modelled_entry : {w : Model} {v : Vecs} (i j : ℕ) → Modelled w v → i < 2 * w.shape.pairs → j < 2 * w.shape.pairs
+    → entry w.block i j ≡ C.block_entry w.shape.n (compact_of w.shape w.theta v) i j
+modelled_entry {w} {v} i j r k l =
     ap (λ (b : Matrix). entry b i j) r.block
-    ∙ block_entry_lem h.n (compact_of h theta v) i j (rw (pairs_count h v) k) (rw (pairs_count h v) l)
+    ∙ block_entry_lem w.shape.n (compact_of w.shape w.theta v) i j (rw (pairs_count w.shape v) k) (rw (pairs_count w.shape v) l)

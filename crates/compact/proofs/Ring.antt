@@ -2,6 +2,7 @@
 use mathlib.Core.Path.{◌≡◌, refl, sym, ap, ◌∙◌}
 use mathlib.Core.Bool.{Bool, true, false, cond, ◌&&◌}
 use mathlib.Core.List.{List, [], ◌∷◌, ◌++◌}
+use Rattle.std.specs.Prelude.{None, Some}
 use Prim.Native.Nat.{ℕ, zero, suc, ◌+◌, ◌≤◌, ◌<◌}
 use native.Mathlib.Numerals.{add-one}
 use native.Mathlib.Omega.{arith}
@@ -15,7 +16,7 @@ use Rattle.definition.specs.Compact.{Pair, wrap, make_room}
 use Rattle.area.specs.Area.{Vecs, upd, copy_of, vector_velocity, vector_displacement, first_pair, place_slot}
 use Rattle.area.proofs.Laws.{upd_other}
 use Rattle.compact.specs.declared.Shape.{Shape}
-use Rattle.compact.specs.State.{pair_slot, pair_at, pairs_of, compact_of, Sound, pushed_shape, Pushed, Updated}
+use Rattle.compact.specs.State.{pair_slot, pair_at, pairs_of, compact_of, Sound, pushed_shape, accepted_of, Pushed, Updated}
 use Rattle.compact.proofs.Laws.{tab-length, tab_same, by_wrap, wrap_below}
 
 tab_last : {A : Type 0} (n : ℕ) (f : ℕ → A) → tab (suc n) f ≡ tab n f ++ (f n ∷ [])
@@ -122,9 +123,9 @@ sound_at h size r false e = rw e (record { few = r.few; most = r.most; ring = wr
 -- ---- `push` and `update`
 
 -- the two scratch vectors copied to the place after the newest
-pub pair_pushed : {h g : Shape} {size : ℕ} (old theta : Float) (k : ℕ) (a b : Vecs) → Sound h size → k ≡ pair_slot h h.pairs
-    → b ≡ copy_of (k + 1) vector_displacement (copy_of k vector_velocity a) → g ≡ pushed_shape h → Pushed h old theta a g b
-pair_pushed {h} {g} old theta k a b r e q j =
+pub pair_pushed : {h g : Shape} {size : ℕ} (k : ℕ) (a b : Vecs) → Sound h size → k ≡ pair_slot h h.pairs
+    → b ≡ copy_of (k + 1) vector_displacement (copy_of k vector_velocity a) → g ≡ pushed_shape h → Pushed h a g b
+pair_pushed {h} {g} k a b r e q j =
     let at = wrap h.m (h.oldest + h.pairs) in
     let same : b ≡ pair_put a at (a vector_velocity) (a vector_displacement) =
     q
@@ -134,7 +135,7 @@ pair_pushed {h} {g} old theta k a b r e q j =
       sound = λ size s. rw j (sound_at h size s (ltb h.pairs h.m) refl);
       n = rw j;
       m = rw j;
-      is =
+      is = λ old theta.
           rw (j, same)
           (λ i. record {
             pairs = push_at h a (a vector_velocity) (a vector_displacement) r.most r.ring (ltb h.pairs h.m) refl i;
@@ -150,24 +151,39 @@ update_at : (n m : ℕ) (c : C.Compact) (s y : List Float) (sy yy : Float) (t : 
 unfolding C.update
 update_at n m c s y sy yy t p q h = rw (← p, ← q, h)
 
-pub pair_taken : {h g : Shape} {old sy yy : Float} {a b : Vecs} → sy ≡ dot h.n (a vector_velocity) (a vector_displacement)
+accepted_as : (t : Bool) (x y : Float) → cond t (Some x) None ≡ Some y → (t ≡ true) × (x ≡ y)
+accepted_as true x y e = (refl, cc)
+accepted_as false x y e = cc
+
+refused_as : (t : Bool) (x : Float) → cond t (Some x) None ≡ None → t ≡ false
+refused_as true x e = cc
+refused_as false x e = refl
+
+pub pair_taken : {h g : Shape} {old sy yy theta : Float} {a b : Vecs} → sy ≡ dot h.n (a vector_velocity) (a vector_displacement)
     → yy ≡ dot h.n (a vector_displacement) (a vector_displacement)
-    → (C.curved sy yy && C.usable (over yy sy)) ≡ true → Pushed h old (over yy sy) a g b → Updated h old a g (over yy sy) b
-pair_taken {h} {g} {old} {sy} {yy} {a} {b} p q e r = record {
-  sound = r.sound;
-  n = r.n;
-  m = r.m;
-  is = r.is ∙ sym (update_at h.n h.m (compact_of h old a) (a vector_velocity) (a vector_displacement) sy yy true p q e);
-  kept = r.kept;
-}
+    → Some theta ≡ accepted_of sy yy → Pushed h a g b → Updated h old a g theta b
+pair_taken {h} {g} {old} {sy} {yy} {theta} {a} {b} p q e r =
+    let t = accepted_as (C.curved sy yy && C.usable (over yy sy)) (over yy sy) theta (sym e) in
+    record {
+      sound = r.sound;
+      n = r.n;
+      m = r.m;
+      is =
+          r.is old theta
+          ∙ ap (C.pushed h.m (compact_of h old a) (record { s = a vector_velocity; y = a vector_displacement })) (sym t.1)
+          ∙ sym (update_at h.n h.m (compact_of h old a) (a vector_velocity) (a vector_displacement) sy yy true p q t.0);
+      kept = r.kept;
+    }
 
 pub pair_refused : {h : Shape} {old sy yy : Float} {a : Vecs} → sy ≡ dot h.n (a vector_velocity) (a vector_displacement)
     → yy ≡ dot h.n (a vector_displacement) (a vector_displacement)
-    → (C.curved sy yy && C.usable (over yy sy)) ≡ false → Updated h old a h old a
-pair_refused {h} {old} {sy} {yy} {a} p q e = record {
-  sound = λ size s. s;
-  n = refl;
-  m = refl;
-  is = sym (update_at h.n h.m (compact_of h old a) (a vector_velocity) (a vector_displacement) sy yy false p q e);
-  kept = λ q l. refl;
-}
+    → None ≡ accepted_of sy yy → Updated h old a h old a
+pair_refused {h} {old} {sy} {yy} {a} p q e =
+    let t = refused_as (C.curved sy yy && C.usable (over yy sy)) (over yy sy) (sym e) in
+    record {
+      sound = λ size s. s;
+      n = refl;
+      m = refl;
+      is = sym (update_at h.n h.m (compact_of h old a) (a vector_velocity) (a vector_displacement) sy yy false p q t);
+      kept = λ q l. refl;
+    }

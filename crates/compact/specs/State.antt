@@ -1,14 +1,15 @@
 -- The correction pairs as a ring of m places in the area, and the definition's `Compact` read off it.
-use Rattle.std.specs.Prelude.{ℕ, ◌+◌, ◌*◌, ◌≤◌, ◌<◌, ◌≡◌, Bool, cond, List, ltb, Float}
-use Rattle.definition.specs.Number.{times, minus, zero64}
+use Rattle.std.specs.Prelude.{ℕ, ◌+◌, ◌*◌, ◌≤◌, ◌<◌, ◌≡◌, Bool, cond, ◌&&◌, List, ltb, Float, Option, None, Some}
+use Rattle.definition.specs.Number.{times, over, minus, zero64}
 use Rattle.definition.specs.Vector.{tab, fold_to, word}
 use Rattle.definition.specs.Problem.{most_pairs}
 use Rattle.definition.specs.Solve.{Matrix}
 use Rattle.definition.specs.Compact as C
 use Rattle.definition.specs.Compact.{wrap}
-use Rattle.area.specs.Area.{Vecs, upd, given, vector_velocity, vector_displacement, first_pair, place_slot, first_column, vectors}
+use Rattle.area.specs.Area.{Vecs, view, upd, given, vector_velocity, vector_displacement, first_pair, place_slot, first_column, vectors}
 use Rattle.solve.specs.Factors.{Factored}
 use Rattle.compact.specs.declared.Shape.{Shape}
+use Rattle.compact.specs.declared.Model.{Model}
 
 -- ---- where the pairs stand
 
@@ -37,12 +38,12 @@ pub record Sound (h : Shape) (size : ℕ) : Type 0 where
   pub all : vectors h.m * h.n ≤ size
 
 -- r is the slot of the s of pair k, and the y is in the next
-pub record Slot (h : Shape) (k r size : ℕ) : Type 0 where
+pub record Slot (h : Shape) (k r : ℕ) : Type 0 where
   pub is : r ≡ pair_slot h k
   pub s : (v : Vecs) → v r ≡ (C.pair_of (pairs_of h v) k).s
   pub y : (v : Vecs) → v (r + 1) ≡ (C.pair_of (pairs_of h v) k).y
-  pub first : r * h.n + h.n ≤ size
-  pub second : (r + 1) * h.n + h.n ≤ size
+  pub first : (size : ℕ) → Sound h size → r * h.n + h.n ≤ size
+  pub second : (size : ℕ) → Sound h size → (r + 1) * h.n + h.n ≤ size
   pub low : r + 2 ≤ first_column h.m
 
 -- ---- `update`
@@ -59,12 +60,17 @@ pushed_shape h = record {
 abbrev pub FixedKept : Vecs → Vecs → Type 0
 FixedKept a b = (q : ℕ) → q < first_pair → b q ≡ a q
 
--- g and theta with the vectors b are h and old with a, the pair of the two scratch vectors pushed with theta
-pub record Pushed (h : Shape) (old theta : Float) (a : Vecs) (g : Shape) (b : Vecs) : Type 0 where
+-- the new theta, where a pair with these products is accepted
+abbrev pub accepted_of : Float → Float → Option Float
+accepted_of sy yy = cond (C.curved sy yy && C.usable (over yy sy)) (Some (over yy sy)) None
+
+-- g with the vectors b is h with a, the pair of the two scratch vectors pushed
+pub record Pushed (h : Shape) (a : Vecs) (g : Shape) (b : Vecs) : Type 0 where
   pub sound : (size : ℕ) → Sound h size → Sound g size
   pub n : g.n ≡ h.n
   pub m : g.m ≡ h.m
-  pub is : compact_of g theta b ≡ C.pushed h.m (compact_of h old a) (record { s = a vector_velocity; y = a vector_displacement }) theta
+  pub is : (old theta : Float)
+      → compact_of g theta b ≡ C.pushed h.m (compact_of h old a) (record { s = a vector_velocity; y = a vector_displacement }) theta
   pub kept : FixedKept a b
 
 pub record Updated (h : Shape) (old : Float) (a : Vecs) (g : Shape) (theta : Float) (b : Vecs) : Type 0 where
@@ -88,15 +94,18 @@ PairsKept h a b = (q : ℕ) → q < first_column h.m → b q ≡ a q
 abbrev pub block_to : Shape → Float → Vecs → ℕ → Matrix
 block_to h theta v k = C.padded C.zero_row k (λ (i : ℕ). C.padded zero64 (2 * h.pairs) (C.block_entry h.n (compact_of h theta v) i))
 
--- what a model is built from: the columns laid out, and the block of the pairs
-pub record Modelled (h : Shape) (theta : Float) (b : Matrix) (v : Vecs) : Type 0 where
-  pub laid : Laid h theta v
-  pub block : b ≡ C.block h.n (compact_of h theta v)
+-- what a model w says of the vectors: the columns laid out, the block of the pairs, and the factors of the block
+pub record Modelled (w : Model) (v : Vecs) : Type 0 where
+  pub laid : Laid w.shape w.theta v
+  pub block : w.block ≡ C.block w.shape.n (compact_of w.shape w.theta v)
+  pub factors : Factored (2 * w.shape.pairs) w.block w.factors
 
--- what products are made with: the columns laid out, and the factors of the block, where ok says that it has them
-pub record Prepared (h : Shape) (theta : Float) (ok : Bool) (t f : Matrix) (p : List ℕ) (v : Vecs) : Type 0 where
-  pub laid : Laid h theta v
-  pub factors : Factored (2 * h.pairs) (C.block h.n (compact_of h theta v)) ok t f p
+-- w with the area b is the model of the pairs in the area a and of theta x
+pub record Built (h : Shape) (x : Float) (a : List Float) (w : Model) (b : List Float) : Type 0 where
+  pub shape : w.shape ≡ h
+  pub theta : w.theta ≡ x
+  pub is : Modelled w (view b w.shape.n)
+  pub kept : PairsKept w.shape (view a w.shape.n) (view b w.shape.n)
 
 -- vector p of b is the product, where ok says that there is one, and the others are as in a
 pub record Multiplied (h : Shape) (theta : Float) (p q : ℕ) (a : Vecs) (ok : Bool) (b : Vecs) : Type 0 where

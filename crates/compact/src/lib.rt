@@ -6,11 +6,12 @@ ghost use Rattle.definition.specs.Number.{over, times, minus, zero64};
 ghost use Rattle.definition.specs.Vector.{tab, dot as dot_of};
 ghost use Rattle.definition.specs.Problem.{most_pairs};
 ghost use Rattle.definition.specs.Compact.{curved as curved_of, usable as usable_of, pair_of, column_word, diagonal_entry, lower_entry, block_entry};
-ghost use Rattle.definition.specs.Compact.{wrap, padded, zero_row, block as block_of, right_side, weights as weights_of};
+ghost use Rattle.definition.specs.Compact.{wrap, padded, block as block_of, right_side, weights as weights_of};
 ghost use Rattle.area.specs.Area.{view, upd, rowwise, first_pair};
-ghost use Rattle.solve.specs.Answers.{answer_of};
-ghost use Rattle.compact.specs.State.{pair_slot, column_slot, Sound, Slot, pairs_of, compact_of, pushed_shape, Pushed};
-ghost use Rattle.compact.specs.State.{block_to, Laid, PairsKept, Prepared, Multiplied, less_to};
+ghost use Rattle.compact.specs.State.{pair_slot, column_slot, Sound, Slot, pairs_of, compact_of, pushed_shape, accepted_of, Pushed};
+ghost use Rattle.compact.specs.State.{block_to, Laid, PairsKept, Modelled, Built, Multiplied, less_to};
+
+use solve::{Factors, Matrix, Row, SIZE};
 
 // What the places of the pairs rest on: n coordinates, m places, how many are used, and which is the oldest.
 #[derive(Clone, Copy)]
@@ -52,33 +53,40 @@ pub fn column_slot(shape: Shape, column: usize) -> usize
 }
 
 // Where a pair stands: its s, and its y in the next vector.
-pub fn pair_slot(area: &[f64], shape: Shape, pair: usize) -> usize
-    requires { Sound shape (length area.now) × (pair < shape.pairs) }
-    ensures { Slot shape pair result (length area.now) }
+pub fn pair_slot(shape: Shape, pair: usize) -> usize
+    requires { (pair < shape.pairs) × (shape.pairs ≤ shape.m) × (shape.oldest < shape.m) × (shape.m ≤ most_pairs) }
+    ensures { Slot shape pair result }
 {
     place_slot(shape, pair)
 }
 
 // ---- update
 
-// Whether a pair is acceptable: sy and yy are finite, the curvature is enough, and theta is finite and positive.
-fn acceptable(sy: f64, yy: f64) -> bool
-    ensures { result ≡ (curved_of sy yy && usable_of (over yy sy)) }
+// Whether a pair's curvature is enough, its two products being finite.
+#[tactic(auto, using(float::proofs::Constants::epsilon_is))]
+fn curved(sy: f64, yy: f64) -> bool
+    ensures { result ≡ curved_of sy yy }
 {
-    if !float::is_finite(sy) {
-        return false;
+    float::is_finite(sy) && float::is_finite(yy) && float::EPSILON * yy < sy
+}
+
+// Whether a theta is finite and positive.
+#[tactic(auto, using(float::proofs::Constants::zero_is))]
+fn usable(theta: f64) -> bool
+    ensures { result ≡ usable_of theta }
+{
+    float::is_finite(theta) && 0.0 < theta
+}
+
+// The new pair's theta, where the pair is acceptable.
+fn accepted(sy: f64, yy: f64) -> Option<f64>
+    ensures { result ≡ accepted_of sy yy }
+{
+    if !curved(sy, yy) {
+        return None;
     }
-    if !float::is_finite(yy) {
-        return false;
-    }
-    if float::EPSILON * yy < sy {
-        let theta = yy / sy;
-        if !float::is_finite(theta) {
-            return false;
-        }
-        return 0.0 < theta;
-    }
-    false
+    let theta = yy / sy;
+    usable(theta).then_some(theta)
 }
 
 // One pair more, or without the oldest where there are m.
@@ -86,19 +94,22 @@ fn pushed(shape: Shape) -> Shape
     requires { (shape.pairs ≤ shape.m) × (shape.oldest < shape.m) × (shape.m ≤ most_pairs) }
     ensures { result ≡ pushed_shape shape }
 {
-    let mut new_shape = shape;
     if shape.pairs < shape.m {
-        new_shape.pairs = shape.pairs + 1;
-        return new_shape;
+        return Shape {
+            pairs: shape.pairs + 1,
+            ..shape
+        };
     }
-    new_shape.oldest = wrapped(shape.m, shape.oldest + 1);
-    new_shape
+    Shape {
+        oldest: wrapped(shape.m, shape.oldest + 1),
+        ..shape
+    }
 }
 
 // The pair of the two scratch vectors becomes the newest.
-fn push(area: &mut [f64], shape: Shape, old: f64, theta: f64) -> Shape
+fn push(area: &mut [f64], shape: Shape) -> Shape
     requires { Sound shape (length area.old) }
-    ensures { Pushed shape old theta (view area.old shape.n) result (view area.new shape.n) }
+    ensures { Pushed shape (view area.old shape.n) result (view area.new shape.n) }
 {
     let slot = place_slot(shape, shape.pairs);
     area::copy(area, shape.n, slot, area::VELOCITY);
@@ -114,17 +125,12 @@ pub fn update(area: &mut [f64], shape: Shape, theta: f64) -> Updated
 {
     let sy = area::dot(area, shape.n, area::VELOCITY, area::DISPLACEMENT);
     let yy = area::dot(area, shape.n, area::DISPLACEMENT, area::DISPLACEMENT);
-    if acceptable(sy, yy) {
-        let new_theta = yy / sy;
-        let new_shape = push(area, shape, theta, new_theta);
-        return Updated {
-            shape: new_shape,
-            theta: new_theta,
-        };
-    }
+    let Some(new_theta) = accepted(sy, yy) else {
+        return Updated { shape, theta };
+    };
     Updated {
-        shape: shape,
-        theta: theta,
+        shape: push(area, shape),
+        theta: new_theta,
     }
 }
 
@@ -135,53 +141,51 @@ fn s_dot_y(area: &[f64], shape: Shape, i: usize, j: usize) -> f64
     requires { Sound shape (length area.now) × (i < shape.pairs) × (j < shape.pairs) }
     ensures { let v = view area.now shape.n in result ≡ dot_of shape.n (pair_of (pairs_of shape v) i).s (pair_of (pairs_of shape v) j).y }
 {
-    let left = pair_slot(area, shape, i);
-    let right = pair_slot(area, shape, j);
+    let left = pair_slot(shape, i);
+    let right = pair_slot(shape, j);
     area::dot(area, shape.n, left, right + 1)
 }
 
 // The s of pair i times the s of pair j.
+// Kept: beside `s_dot_y`, since one function for both would take the second vector as a number.
 fn s_dot_s(area: &[f64], shape: Shape, i: usize, j: usize) -> f64
     requires { Sound shape (length area.now) × (i < shape.pairs) × (j < shape.pairs) }
     ensures { let v = view area.now shape.n in result ≡ dot_of shape.n (pair_of (pairs_of shape v) i).s (pair_of (pairs_of shape v) j).s }
 {
-    let left = pair_slot(area, shape, i);
-    let right = pair_slot(area, shape, j);
+    let left = pair_slot(shape, i);
+    let right = pair_slot(shape, j);
     area::dot(area, shape.n, left, right)
 }
 
 // An entry of -D: -s·y of a pair on the diagonal, and 0 elsewhere.
+#[tactic(auto, using(float::proofs::Constants::zero_is), unfolding(definition::specs::Compact::diagonal_entry))]
 fn diagonal(area: &[f64], shape: Shape, i: usize, j: usize) -> f64
     requires { Sound shape (length area.now) × (i < shape.pairs) × (j < shape.pairs) }
     ensures { result ≡ diagonal_entry shape.n (pairs_of shape (view area.now shape.n)) i j }
 {
     if i == j {
-        return -s_dot_y(area, shape, i, j);
+        -s_dot_y(area, shape, i, j)
+    } else {
+        0.0
     }
-    0.0
 }
 
 // An entry of L: s of pair i times y of pair j below the diagonal, and 0 elsewhere.
+#[tactic(auto, using(float::proofs::Constants::zero_is), unfolding(definition::specs::Compact::lower_entry))]
 fn lower(area: &[f64], shape: Shape, i: usize, j: usize) -> f64
     requires { Sound shape (length area.now) × (i < shape.pairs) × (j < shape.pairs) }
     ensures { result ≡ lower_entry shape.n (pairs_of shape (view area.now shape.n)) i j }
 {
     if j < i {
-        return s_dot_y(area, shape, i, j);
+        s_dot_y(area, shape, i, j)
+    } else {
+        0.0
     }
-    0.0
 }
 
 // Entry i, j of the block [-D, L'; L, theta S'S], by the row's half and the column's. The block is symmetric: below the diagonal
 // the entry is taken from the rows above, which stand in the block.
-fn block_entry(
-    area: &[f64],
-    shape: Shape,
-    theta: f64,
-    block: &[[f64; 32]; 32],
-    i: usize,
-    j: usize,
-) -> f64
+fn block_entry(area: &[f64], shape: Shape, theta: f64, block: &Matrix, i: usize, j: usize) -> f64
     requires { Sound shape (length area.now) × (i < 2 * shape.pairs) × (j < 2 * shape.pairs)
         × (block.now ≡ block_to shape theta (view area.now shape.n) i) }
     ensures { result ≡ block_entry shape.n (compact_of shape theta (view area.now shape.n)) i j }
@@ -199,41 +203,27 @@ fn block_entry(
     theta * s_dot_s(area, shape, i - pairs, j - pairs)
 }
 
-// A row of zeros.
-pub fn zeros() -> [f64; 32]
-    ensures { result ≡ zero_row }
-{
-    [0.0; 32]
-}
-
 // Row i of the block, in an array of 32; the rows above stand in the block.
-fn block_row(area: &[f64], shape: Shape, theta: f64, block: &[[f64; 32]; 32], i: usize) -> [f64; 32]
+fn block_row(area: &[f64], shape: Shape, theta: f64, block: &Matrix, i: usize) -> Row
     requires { Sound shape (length area.now) × (i < 2 * shape.pairs) × (block.now ≡ block_to shape theta (view area.now shape.n) i) }
     ensures { result ≡ padded zero64 (2 * shape.pairs) (block_entry shape.n (compact_of shape theta (view area.now shape.n)) i) }
 {
-    let size = 2 * shape.pairs;
-    let mut row = zeros();
-    let mut j = 0;
-    while j < size {
+    let mut row = [0.0; SIZE];
+    for j in 0..2 * shape.pairs {
         row[j] = block_entry(area, shape, theta, block, i, j);
-        j += 1;
     }
     row
 }
 
 // The block, once for a model.
-pub fn block(area: &[f64], shape: Shape, theta: f64) -> [[f64; 32]; 32]
+fn block(area: &[f64], shape: Shape, theta: f64) -> Matrix
     requires { Sound shape (length area.now) }
     ensures { result ≡ block_of shape.n (compact_of shape theta (view area.now shape.n)) }
 {
-    let size = 2 * shape.pairs;
-    let zero_row = zeros();
-    let mut block = [zero_row; 32];
-    let mut i = 0;
-    while i < size {
+    let mut block = [[0.0; SIZE]; SIZE];
+    for i in 0..2 * shape.pairs {
         let row = block_row(area, shape, theta, &block, i);
         block[i] = row;
-        i += 1;
     }
     block
 }
@@ -241,16 +231,15 @@ pub fn block(area: &[f64], shape: Shape, theta: f64) -> [[f64; 32]; 32]
 // ---- the columns of W = [Y, theta S], laid out once for a model
 
 // Vector `to` becomes the factor times vector `from`.
+#[tactic(auto, using(area::proofs::Laws::row_none, area::proofs::Laws::row_done))]
 fn scale(area: &mut [f64], n: usize, to: usize, from: usize, factor: f64)
     requires { (to * n + n ≤ length area.old) × (from * n + n ≤ length area.old) }
     ensures { view area.new n ≡ rowwise n to (λ (i : ℕ) v. times factor (v from)) (view area.old n) }
 {
     let to_start = to * n;
     let from_start = from * n;
-    let mut i = 0;
-    while i < n {
+    for i in 0..n {
         area[to_start + i] = factor * area[from_start + i];
-        i += 1;
     }
 }
 
@@ -262,102 +251,113 @@ fn lay_column(area: &mut [f64], shape: Shape, theta: f64, column: usize)
 {
     let to = column_slot(shape, column);
     if column < shape.pairs {
-        let slot = pair_slot(area, shape, column);
+        let slot = pair_slot(shape, column);
         area::copy(area, shape.n, to, slot + 1);
     } else {
-        let slot = pair_slot(area, shape, column - shape.pairs);
+        let slot = pair_slot(shape, column - shape.pairs);
         scale(area, shape.n, to, slot, theta);
     }
 }
 
 // Every column, each in its own vector past the pairs; the vectors below stay.
-pub fn lay_columns(area: &mut [f64], shape: Shape, theta: f64)
+fn lay_columns(area: &mut [f64], shape: Shape, theta: f64)
     requires { Sound shape (length area.old) }
     ensures { Laid shape theta (view area.new shape.n)
         × PairsKept shape (view area.old shape.n) (view area.new shape.n) }
 {
-    let size = 2 * shape.pairs;
-    let mut column = 0;
-    while column < size {
+    for column in 0..2 * shape.pairs {
         lay_column(area, shape, theta, column);
-        column += 1;
+    }
+}
+
+// ---- the model
+
+// What products with B and the subspace step rest on: the pairs, the block of the middle matrix, and its factors. The columns stand in the area.
+#[derive(Drop)]
+pub struct Model {
+    pub shape: Shape,
+    pub theta: f64,
+    pub block: Matrix,
+    pub factors: Factors,
+}
+
+impl Model {
+    // A model that is not built.
+    pub fn new(shape: Shape, theta: f64) -> Self
+        ensures { (result.shape ≡ shape) × (result.theta ≡ theta) }
+    {
+        let factors = Factors::none();
+        Model {
+            shape,
+            theta,
+            block: [[0.0; SIZE]; SIZE],
+            factors,
+        }
+    }
+
+    // The model of the pairs: the columns are laid out, and the block is built and factored.
+    // Kept: in place. A model by value, with an Option of its factors, took 5.7 microseconds where this one takes 2.5 (3 coordinates, 5 pairs).
+    pub fn build(&mut self, area: &mut [f64])
+        requires { Sound self.old.shape (length area.old) }
+        ensures { Built self.old.shape self.old.theta area.old self.new area.new }
+    {
+        lay_columns(area, self.shape, self.theta);
+        let block = block(area, self.shape, self.theta);
+        self.block = block;
+        self.factors.factor(2 * self.shape.pairs, block);
     }
 }
 
 // ---- products with B
 
 // The columns' products with the vector.
-fn right_side(area: &[f64], shape: Shape, theta: f64, vector: usize) -> [f64; 32]
-    requires { Sound shape (length area.now) × Laid shape theta (view area.now shape.n) × (vector < first_pair) }
-    ensures { result ≡ right_side shape.n (compact_of shape theta (view area.now shape.n)) (view area.now shape.n vector) }
+fn right_side(area: &[f64], model: &Model, vector: usize) -> Row
+    requires { Sound model.now.shape (length area.now) × Modelled model.now (view area.now model.now.shape.n) × (vector < first_pair) }
+    ensures { let h = model.now.shape in let v = view area.now h.n in result ≡ right_side h.n (compact_of h model.now.theta v) (v vector) }
 {
-    let size = 2 * shape.pairs;
-    let mut right = zeros();
-    let mut column = 0;
-    while column < size {
+    let shape = model.shape;
+    let mut right = [0.0; SIZE];
+    for column in 0..2 * shape.pairs {
         right[column] = area::dot(area, shape.n, column_slot(shape, column), vector);
-        column += 1;
     }
     right
 }
 
 // The weights of the columns in the product with the vector, where there are any.
-fn weights(
-    area: &[f64],
-    shape: Shape,
-    theta: f64,
-    found: bool,
-    rows: &[[f64; 32]; 32],
-    multipliers: &[[f64; 32]; 32],
-    order: &[usize; 32],
-    vector: usize,
-) -> solve::Answer
-    requires { Sound shape (length area.now) × Prepared shape theta found rows.now multipliers.now order.now (view area.now shape.n)
-        × (vector < first_pair) }
-    ensures { let v = view area.now shape.n in answer_of result ≡ weights_of shape.n (compact_of shape theta v) (v vector) }
+fn weights(area: &[f64], model: &Model, vector: usize) -> Option<Row>
+    requires { Sound model.now.shape (length area.now) × Modelled model.now (view area.now model.now.shape.n) × (vector < first_pair) }
+    ensures { let h = model.now.shape in let v = view area.now h.n in result ≡ weights_of h.n (compact_of h model.now.theta v) (v vector) }
 {
-    if shape.pairs == 0 {
-        let zero_row = zeros();
-        return solve::Answer {
-            ok: true,
-            x: zero_row,
-        };
+    if model.shape.pairs == 0 {
+        return Some([0.0; SIZE]);
     }
-    let right = right_side(area, shape, theta, vector);
-    solve::solve_with(2 * shape.pairs, found, rows, multipliers, order, right)
+    let right = right_side(area, model, vector);
+    model.factors.solve(2 * model.shape.pairs, right)
 }
 
 // Vector `to` becomes itself less the factor times vector `from`.
+#[tactic(auto, using(area::proofs::Laws::row_none, area::proofs::Laws::row_done))]
 fn less(area: &mut [f64], n: usize, to: usize, from: usize, factor: f64)
     requires { (to * n + n ≤ length area.old) × (from * n + n ≤ length area.old) }
     ensures { view area.new n ≡ rowwise n to (λ (i : ℕ) v. minus (v to) (times factor (v from))) (view area.old n) }
 {
     let to_start = to * n;
     let from_start = from * n;
-    let mut i = 0;
-    while i < n {
+    for i in 0..n {
         area[to_start + i] = area[to_start + i] - factor * area[from_start + i];
-        i += 1;
     }
 }
 
 // Vector `to` becomes theta times vector `from`, less each column with its weight.
-fn less_columns(
-    area: &mut [f64],
-    shape: Shape,
-    theta: f64,
-    weights: [f64; 32],
-    to: usize,
-    from: usize,
-)
-    requires { Sound shape (length area.old) × Laid shape theta (view area.old shape.n) × (to < first_pair) × (from < first_pair) }
-    ensures { let v = view area.old shape.n in
-        view area.new shape.n ≡ upd v to (tab shape.n (less_to (compact_of shape theta v) weights (v from) (2 * shape.pairs))) }
+fn less_columns(area: &mut [f64], model: &Model, weights: Row, to: usize, from: usize)
+    requires { Sound model.now.shape (length area.old) × Modelled model.now (view area.old model.now.shape.n)
+        × (to < first_pair) × (from < first_pair) }
+    ensures { let h = model.now.shape in let v = view area.old h.n in
+        view area.new h.n ≡ upd v to (tab h.n (less_to (compact_of h model.now.theta v) weights (v from) (2 * h.pairs))) }
 {
-    let size = 2 * shape.pairs;
-    scale(area, shape.n, to, from, theta);
-    let mut column = 0;
-    while column < size {
+    let shape = model.shape;
+    scale(area, shape.n, to, from, model.theta);
+    for column in 0..2 * shape.pairs {
         less(
             area,
             shape.n,
@@ -365,31 +365,20 @@ fn less_columns(
             column_slot(shape, column),
             weights[column],
         );
-        column += 1;
     }
 }
 
 // `times`: vector `to` becomes B times vector `from`; false, and `to` is scratch, where there is no such product.
-pub fn product(
-    area: &mut [f64],
-    shape: Shape,
-    theta: f64,
-    found: bool,
-    rows: &[[f64; 32]; 32],
-    multipliers: &[[f64; 32]; 32],
-    order: &[usize; 32],
-    to: usize,
-    from: usize,
-) -> bool
-    requires { Sound shape (length area.old) × Prepared shape theta found rows.now multipliers.now order.now (view area.old shape.n)
+// Kept: a flag, since the product itself stands in the lent area.
+pub fn product(area: &mut [f64], model: &Model, to: usize, from: usize) -> bool
+    requires { Sound model.now.shape (length area.old) × Modelled model.now (view area.old model.now.shape.n)
         × (to < first_pair) × (from < first_pair) }
-    ensures { Multiplied shape theta to from (view area.old shape.n) result (view area.new shape.n) }
+    ensures { let h = model.now.shape in
+        Multiplied h model.now.theta to from (view area.old h.n) result (view area.new h.n) }
 {
-    let answer = weights(area, shape, theta, found, rows, multipliers, order, from);
-    if !answer.ok {
+    let Some(weights) = weights(area, model, from) else {
         return false;
-    }
-    let weights = answer.x;
-    less_columns(area, shape, theta, weights, to, from);
-    area::all_finite(area, shape.n, to)
+    };
+    less_columns(area, model, weights, to, from);
+    area::all_finite(area, model.shape.n, to)
 }

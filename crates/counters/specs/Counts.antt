@@ -1,11 +1,9 @@
 -- The definition's counters and terminations, read off the structs of the code.
 use Rattle.std.specs.Prelude.{ℕ, ◌^◌, Bool, cond}
-use Rattle.std.proofs.Math.Option.{Option, none, some}
+use Rattle.std.specs.Prelude.{Option, None, Some, option_map}
 use Rattle.definition.specs.Problem as P
 use Rattle.definition.specs.Counters as C
 use Rattle.counters.specs.declared.Counters.{Counters}
-use Rattle.counters.specs.declared.Charge.{Charge}
-use Rattle.counters.specs.declared.Charge.TheVariants.{Spent, Charged}
 use Rattle.counters.specs.declared.Termination.{Termination}
 use Rattle.counters.specs.declared.Termination.TheVariants.{GTol, FTol, MaxIterations, MaxEvaluations, Cancelled}
 use Rattle.counters.specs.declared.Termination.TheVariants.{Nonfinite, LineSearchFailed, ObjectiveFailed}
@@ -33,11 +31,10 @@ abbrev pub value_charged : P.Limits → C.Counters → C.Counters
 value_charged limits counters = cond (C.value_left limits counters) (C.charge_value counters) counters
 
 abbrev pub charged_if : Bool → C.Counters → Option C.Counters
-charged_if left counters = cond left (some counters) none
+charged_if left counters = cond left (Some counters) None
 
 abbrev pub value_charge : P.Limits → C.Counters → Option C.Counters
 value_charge limits counters = charged_if (C.value_left limits counters) (C.charge_value counters)
 
-abbrev pub charge_of : Charge → Option C.Counters
-charge_of Spent = none
-charge_of (Charged counters) = some (counters_of counters)
+abbrev pub charge_of : Option Counters → Option C.Counters
+charge_of charge = option_map counters_of charge

@@ -5,11 +5,11 @@ ghost use Rattle.std.specs.Prelude.{◌≡◌, ◌<◌};
 ghost use Rattle.definition.specs.Counters.{status_number, first_counters, value_left};
 ghost use Rattle.definition.specs.Counters.{charge_gradient as charge_gradient_of, charge_iteration as charge_iteration_of, iterations_spent};
 ghost use Rattle.problem.specs.Setups.{limits_of};
-ghost use Rattle.counters.specs.Counts.{counters_of, termination_of, charge_of, charged_if, value_charged, value_charge, most_counted};
+ghost use Rattle.counters.specs.Counts.{counters_of, termination_of, charge_of, value_charged, value_charge, most_counted};
 
 use problem::Limits;
 
-#[derive(Clone, Copy)]
+#[derive(Clone, Copy, Debug, PartialEq, Eq)]
 pub enum Termination {
     GTol,
     FTol,
@@ -24,161 +24,111 @@ pub enum Termination {
 // No count is near where a sum would wrap.
 pub const MOST_COUNTED: usize = 0x4000_0000_0000_0000;
 
-#[derive(Clone, Copy)]
+#[derive(Clone, Copy, Debug, PartialEq, Eq)]
 pub struct Counters {
     pub nit: usize,
     pub nfev: usize,
     pub njev: usize,
 }
 
-// What a value question costs: the counters with it charged, or nothing where the budget is spent.
-#[derive(Clone, Copy)]
-pub enum Charge {
-    Spent,
-    Charged(Counters),
-}
-
-// Document 01's number of a termination.
-pub fn status_number(termination: Termination) -> usize
-    ensures { result ≡ status_number (termination_of termination) }
-{
-    match termination {
-        Termination::GTol => 1,
-        Termination::FTol => 2,
-        Termination::MaxIterations => 3,
-        Termination::MaxEvaluations => 4,
-        Termination::Cancelled => 5,
-        Termination::Nonfinite => 6,
-        Termination::LineSearchFailed => 7,
-        Termination::ObjectiveFailed => 8,
+impl Termination {
+    // The status that a report gives.
+    pub fn number(self) -> usize
+        ensures { result ≡ status_number (termination_of self) }
+    {
+        match self {
+            Termination::GTol => 1,
+            Termination::FTol => 2,
+            Termination::MaxIterations => 3,
+            Termination::MaxEvaluations => 4,
+            Termination::Cancelled => 5,
+            Termination::Nonfinite => 6,
+            Termination::LineSearchFailed => 7,
+            Termination::ObjectiveFailed => 8,
+        }
     }
 }
 
-// The counters on opening: the first value question is charged.
-pub fn first_counters() -> Counters
-    ensures { counters_of result ≡ first_counters }
-{
-    Counters {
-        nit: 0,
-        nfev: 1,
-        njev: 0,
+impl Counters {
+    // The counters on opening: the first value question is charged.
+    pub fn first() -> Counters
+        ensures { counters_of result ≡ first_counters }
+    {
+        Counters {
+            nit: 0,
+            nfev: 1,
+            njev: 0,
+        }
     }
-}
 
-// Whether the budget of values lasts for another.
-fn value_left(limits: Limits, counters: Counters) -> bool
-    ensures { result ≡ value_left (limits_of limits) (counters_of counters) }
-{
-    counters.nfev < limits.maxfev
-}
+    // Whether the budget of iterations is spent, looked at after the notice.
+    pub fn iterations_spent(self, limits: Limits) -> bool
+        ensures { result ≡ iterations_spent (limits_of limits) (counters_of self) }
+    {
+        limits.maxiter <= self.nit
+    }
 
-// A value question charged, while the budget lasts.
-fn charge_value(limits: Limits, counters: Counters) -> Counters
-    ensures { counters_of result ≡ value_charged (limits_of limits) (counters_of counters) }
-{
-    if value_left(limits, counters) {
-        return Counters {
-            nit: counters.nit,
-            nfev: counters.nfev + 1,
-            njev: counters.njev,
+    // A value question charged, unless the budget of values is spent.
+    pub fn value_charged(self, limits: Limits) -> Option<Counters>
+        ensures { charge_of result ≡ value_charge (limits_of limits) (counters_of self) }
+    {
+        if limits.maxfev <= self.nfev {
+            return None;
+        }
+        Some(Counters {
+            nfev: self.nfev + 1,
+            ..self
+        })
+    }
+
+    // A gradient charged: supplied, or differenced and complete.
+    pub fn gradient_charged(self) -> Counters
+        requires { self.njev < most_counted }
+        ensures { counters_of result ≡ charge_gradient_of (counters_of self) }
+    {
+        Counters {
+            njev: self.njev + 1,
+            ..self
+        }
+    }
+
+    // An iteration charged, before its notice.
+    pub fn iteration_charged(self) -> Counters
+        requires { self.nit < most_counted }
+        ensures { counters_of result ≡ charge_iteration_of (counters_of self) }
+    {
+        Counters {
+            nit: self.nit + 1,
+            ..self
+        }
+    }
+
+    // Kept: a rule of the project, that the counters are lent by &mut to thin functions above those by value.
+    // `Counters::value`: charges a value question and says so, or says that the budget is spent and charges nothing.
+    pub fn charge_value(&mut self, limits: Limits) -> bool
+        ensures counters { counters_of self.new ≡ value_charged (limits_of limits) (counters_of self.old) }
+        ensures left { result ≡ value_left (limits_of limits) (counters_of self.old) }
+    {
+        let Some(charged) = self.value_charged(limits) else {
+            return false;
         };
+        *self = charged;
+        true
     }
-    counters
-}
 
-// A gradient charged: supplied, or differenced and complete.
-fn charge_gradient(counters: Counters) -> Counters
-    requires { counters.njev < most_counted }
-    ensures { counters_of result ≡ charge_gradient_of (counters_of counters) }
-{
-    Counters {
-        nit: counters.nit,
-        nfev: counters.nfev,
-        njev: counters.njev + 1,
+    // `Counters::charge_gradient`
+    pub fn charge_gradient(&mut self)
+        requires { self.old.njev < most_counted }
+        ensures { counters_of self.new ≡ charge_gradient_of (counters_of self.old) }
+    {
+        *self = self.gradient_charged();
     }
-}
 
-// An iteration charged, before its notice.
-fn charge_iteration(counters: Counters) -> Counters
-    requires { counters.nit < most_counted }
-    ensures { counters_of result ≡ charge_iteration_of (counters_of counters) }
-{
-    Counters {
-        nit: counters.nit + 1,
-        nfev: counters.nfev,
-        njev: counters.njev,
+    // The count of `Counters::end_iteration`
+    pub fn charge_iteration(&mut self)
+        requires { self.old.nit < most_counted }
+        ensures { counters_of self.new ≡ charge_iteration_of (counters_of self.old) }
+    {
+        *self = self.iteration_charged();
     }
-}
-
-// Whether the budget of iterations is spent, looked at after the notice.
-pub fn iterations_spent(limits: Limits, counters: Counters) -> bool
-    ensures { result ≡ iterations_spent (limits_of limits) (counters_of counters) }
-{
-    limits.maxiter <= counters.nit
-}
-
-// `Counters::value`: charges a value question and says so, or says that the budget is spent and charges nothing.
-fn value(limits: Limits, counters: &mut Counters) -> bool
-    ensures { (counters_of counters.new ≡ value_charged (limits_of limits) (counters_of counters.old))
-        × (result ≡ value_left (limits_of limits) (counters_of counters.old)) }
-{
-    let before = *counters;
-    let left = value_left(limits, before);
-    *counters = charge_value(limits, before);
-    left
-}
-
-// `Counters::charge_gradient`
-fn gradient(counters: &mut Counters)
-    requires { counters.old.njev < most_counted }
-    ensures { counters_of counters.new ≡ charge_gradient_of (counters_of counters.old) }
-{
-    *counters = charge_gradient(*counters);
-}
-
-// The count of `Counters::end_iteration`
-fn iteration(counters: &mut Counters)
-    requires { counters.old.nit < most_counted }
-    ensures { counters_of counters.new ≡ charge_iteration_of (counters_of counters.old) }
-{
-    *counters = charge_iteration(*counters);
-}
-
-// The counters with a value question charged, or `Spent`.
-fn charge_of(left: bool, counters: Counters) -> Charge
-    ensures { charge_of result ≡ charged_if left (counters_of counters) }
-{
-    if left {
-        return Charge::Charged(counters);
-    }
-    Charge::Spent
-}
-
-// `value` for a caller that has the counters by value.
-pub fn value_charged(limits: Limits, counters: Counters) -> Charge
-    ensures { charge_of result ≡ value_charge (limits_of limits) (counters_of counters) }
-{
-    let mut charged = counters;
-    let left = value(limits, &mut charged);
-    charge_of(left, charged)
-}
-
-// `gradient` for a caller that has the counters by value.
-pub fn gradient_charged(counters: Counters) -> Counters
-    requires { counters.njev < most_counted }
-    ensures { counters_of result ≡ charge_gradient_of (counters_of counters) }
-{
-    let mut charged = counters;
-    gradient(&mut charged);
-    charged
-}
-
-// `iteration` for a caller that has the counters by value.
-pub fn iteration_charged(counters: Counters) -> Counters
-    requires { counters.nit < most_counted }
-    ensures { counters_of result ≡ charge_iteration_of (counters_of counters) }
-{
-    let mut charged = counters;
-    iteration(&mut charged);
-    charged
 }

@@ -4,7 +4,7 @@ use native.Mathlib.Omega.{arith}
 use mathlib.Core.Path.{◌≡◌, refl, sym}
 use mathlib.Core.Bool.{Bool, true, false, not, ◌||◌}
 use mathlib.Core.List.{List}
-use mathlib.Core.Option.{Option, none, some}
+use Rattle.std.specs.Prelude.{Option, None, Some}
 use lib.Dec.{eqb, ltb}
 use lib.ListN.{length}
 use lib.Ieee as Ieee
@@ -25,46 +25,46 @@ use Rattle.definition.proofs.Vectors.{length-tab, fold_to_each}
 
 -- ---- checks that passed
 
-pub both_passed : (a b : Check) → (a then b) ≡ none → (a ≡ none) × (b ≡ none)
-both_passed none b e = (refl, e)
-both_passed (some r) b e = let z : ◌≡◌ {A = ℕ} 0 1 = cc in absurd (omega arith)
+pub both_passed : (a b : Check) → (a then b) ≡ None → (a ≡ None) × (b ≡ None)
+both_passed None b e = (refl, e)
+both_passed (Some r) b e = let z : ◌≡◌ {A = ℕ} 0 1 = cc in absurd (omega arith)
 
-pub test_failed : (t : Bool) (r : Refusal) → when t (some r) ≡ none → t ≡ false
+pub test_failed : (t : Bool) (r : Refusal) → when t (Some r) ≡ None → t ≡ false
 test_failed true r e = let z : ◌≡◌ {A = ℕ} 0 1 = cc in absurd (omega arith)
 test_failed false r e = refl
 
-each_passed : (n : ℕ) (check : ℕ → Check) → each_index n check ≡ none → (i : ℕ) → i < n → check i ≡ none
+each_passed : (n : ℕ) (check : ℕ → Check) → each_index n check ≡ None → (i : ℕ) → i < n → check i ≡ None
 each_passed n check =
-    fold_to_each (λ (c : Check). c ≡ none) (λ (i : ℕ). check i ≡ none) (λ i c. c then check i) none (λ i c. both_passed c (check i)) n
+    fold_to_each (λ (c : Check). c ≡ None) (λ (i : ℕ). check i ≡ None) (λ i c. c then check i) None (λ i c. both_passed c (check i)) n
 
-given_passed : {A : Type 0} (check : A → Check) (P : A → Type 0) (o : Option A) → ((a : A) → check a ≡ none → P a) → given check o ≡ none → Given P o
-given_passed check P none f e = tt
-given_passed check P (some a) f e = f a e
+given_passed : {A : Type 0} (check : A → Check) (P : A → Type 0) (o : Option A) → ((a : A) → check a ≡ None → P a) → given check o ≡ None → Given P o
+given_passed check P None f e = tt
+given_passed check P (Some a) f e = f a e
 
 given_both : {A : Type 0} (P Q : A → Type 0) (o : Option A) → Given P o → Given Q o → Given (λ a. P a × Q a) o
-given_both P Q none p q = tt
-given_both P Q (some a) p q = (p, q)
+given_both P Q None p q = tt
+given_both P Q (Some a) p q = (p, q)
 
 -- ---- a reply that is due
 
-pub due_taken : (m : Machine) (r : Reply) → check_due m r ≡ none → takes m r ≡ true
+pub due_taken : (m : Machine) (r : Reply) → check_due m r ≡ None → takes m r ≡ true
 due_taken m r e =
     not-false (takes m r) (test_failed (not (takes m r)) _ (both_passed (when (not (takes m r)) (refuse 13 0 0)) (check_length m.terms.n r) e).0)
 
-pub due_length : (m : Machine) (ws : List ℕ) → check_due m (Reply.gradient ws) ≡ none → length ws ≡ m.terms.n
+pub due_length : (m : Machine) (ws : List ℕ) → check_due m (Reply.gradient ws) ≡ None → length ws ≡ m.terms.n
 due_length m ws e =
     let p = both_passed (when (not (takes m (Reply.gradient ws))) (refuse 13 0 0)) (check_length m.terms.n (Reply.gradient ws)) e in
     eqb-true (length ws) m.terms.n (not-false (eqb (length ws) m.terms.n) (test_failed (not (eqb (length ws) m.terms.n)) _ p.1))
 
 -- ---- one value of a setup
 
-above_zero : (k : ℕ) (r : Refusal) → when (eqb k 0) (some r) ≡ none → 1 ≤ k
+above_zero : (k : ℕ) (r : Refusal) → when (eqb k 0) (Some r) ≡ None → 1 ≤ k
 above_zero k r e = let n = eqb-false k 0 (test_failed (eqb k 0) r e) in omega arith
 
-most : (limit detail k : ℕ) → at_most limit detail k ≡ none → k ≤ limit
+most : (limit detail k : ℕ) → at_most limit detail k ≡ None → k ≤ limit
 most limit detail k e = ltb-false limit k (test_failed (ltb limit k) _ e)
 
-finite_or : (v : Float) (t : Bool) (r : Refusal) → when (not (finite v) || t) (some r) ≡ none → finite v ≡ true
+finite_or : (v : Float) (t : Bool) (r : Refusal) → when (not (finite v) || t) (Some r) ≡ None → finite v ≡ true
 finite_or v t r e = go (finite v) (test_failed (not (finite v) || t) r e)
   where
     go : (f : Bool) → (not f || t) ≡ false → f ≡ true
@@ -82,7 +82,7 @@ pub record OneSide (n : ℕ) (side : List Float) : Type 0 where
   pub size : length side ≡ n
   pub plain : Each Plain side
 
-side_passed : (n : ℕ) (side : List Float) → check_side n side ≡ none → OneSide n side
+side_passed : (n : ℕ) (side : List Float) → check_side n side ≡ None → OneSide n side
 side_passed n side e =
     let p = both_passed _ (each_index n (λ i. when (is_nan (word side i)) (refuse 4 i 0))) e in
     let size = eqb-true (length side) n (not-false (eqb (length side) n) (test_failed (not (eqb (length side) n)) _ p.0)) in
@@ -115,15 +115,15 @@ pub record Passed (s : Setup) : Type 0 where
   pub gtol : Given Finite s.gtol
   pub eps : Given Finite s.eps
 
-count_passed : (limit option detail : ℕ) (o : Option ℕ) → given (positive option) o ≡ none → given (at_most limit detail) o ≡ none → Given (Count limit) o
+count_passed : (limit option detail : ℕ) (o : Option ℕ) → given (positive option) o ≡ None → given (at_most limit detail) o ≡ None → Given (Count limit) o
 count_passed limit option detail o e f =
     given_both (λ k. 1 ≤ k) (λ k. k ≤ limit) o (given_passed (positive option) _ o (λ k. above_zero k _) e)
     (given_passed (at_most limit detail) _ o (most limit detail) f)
 
-finite_passed : (option : ℕ) (o : Option Float) → given (finite_positive option) o ≡ none → Given Finite o
+finite_passed : (option : ℕ) (o : Option Float) → given (finite_positive option) o ≡ None → Given Finite o
 finite_passed option o e = given_passed (finite_positive option) Finite o (λ v. finite_or v (Ieee.le v zero64) _) e
 
-nonnegative_passed : (option : ℕ) (o : Option Float) → given (finite_nonnegative option) o ≡ none → Given Finite o
+nonnegative_passed : (option : ℕ) (o : Option Float) → given (finite_nonnegative option) o ≡ None → Given Finite o
 nonnegative_passed option o e = given_passed (finite_nonnegative option) Finite o (λ v. finite_or v (Ieee.lt v zero64) _) e
 
 pub accepted_passed : (s : Setup) → Accepted s → Passed s
@@ -159,7 +159,7 @@ accepted_passed s e =
       eps = finite_passed 2 s.eps options3.1;
     }
   where
-    box : (n : ℕ) (b : Bounds) → check_bounds n b ≡ none → Sides n b
+    box : (n : ℕ) (b : Bounds) → check_bounds n b ≡ None → Sides n b
     box n b e =
         let p = both_passed (check_side n b.lower) (check_side n b.upper then each_index n (check_pair b)) e in
         let q = both_passed (check_side n b.upper) (each_index n (check_pair b)) p.1 in
@@ -175,14 +175,14 @@ accepted_passed s e =
 -- ---- what applies
 
 count_applies : (limit default : ℕ) (o : Option ℕ) → Count limit default → Given (Count limit) o → Count limit (or_else o default)
-count_applies limit default none d h = d
-count_applies limit default (some k) d h = h
+count_applies limit default None d h = d
+count_applies limit default (Some k) d h = h
 
 box_lengths :
     (n : ℕ) (o : Option Bounds) → Given (Sides n) o
     → (length (or_else o (open_bounds n)).lower ≡ n) × (length (or_else o (open_bounds n)).upper ≡ n)
-box_lengths n none h = (length-tab n _, length-tab n _)
-box_lengths n (some b) h = (h.lower.size, h.upper.size)
+box_lengths n None h = (length-tab n _, length-tab n _)
+box_lengths n (Some b) h = (h.lower.size, h.upper.size)
 
 pub accepted_in_limits : (s : Setup) → Accepted s → InLimits s
 accepted_in_limits s a =

@@ -4,7 +4,7 @@ use native.Mathlib.Omega.{arith}
 use mathlib.Core.Path.{◌≡◌, refl}
 use mathlib.Core.Bool.{cond}
 use mathlib.Core.List.{List, [], ◌∷◌}
-use mathlib.Core.Option.{none}
+use Rattle.std.specs.Prelude.{None}
 use lib.ListN.{length}
 use Rattle.definition.specs.Problem.{Setup, refuse, limits_of}
 use Rattle.definition.specs.Counters.{Termination}
@@ -28,7 +28,7 @@ unfolding count_of
 kinds [] = refl
 kinds (r ∷ rs) = omega (arith, kinds rs, one_kind r)
 
-closed : (m : Machine) (p : Phase) → opens 1 p + opens 2 p + opens 3 p ≡ 0 → question_in m p ≡ none
+closed : (m : Machine) (p : Phase) → opens 1 p + opens 2 p + opens 3 p ≡ 0 → question_in m p ≡ None
 closed m (Phase.value w) e = absurd (omega arith)
 closed m (Phase.gradient w) e = absurd (omega arith)
 closed m (Phase.probe w i side) e = absurd (omega arith)
@@ -43,7 +43,7 @@ module _ (s : Setup) (rs : List Reply) (accepted : Accepted s) (due : Due s rs) 
   pub replies_bounded : length rs ≤ 2 * (limits_of s).maxfev + (limits_of s).maxiter
   replies_bounded = omega (arith, replies_and_question)
 
-  pub ended_with_most_replies : length rs ≡ 2 * (limits_of s).maxfev + (limits_of s).maxiter → question (run s rs) ≡ none
+  pub ended_with_most_replies : length rs ≡ 2 * (limits_of s).maxfev + (limits_of s).maxiter → question (run s rs) ≡ None
   ended_with_most_replies e = closed (run s rs) (run s rs).phase (omega (arith, replies_and_question))
 
 pub ended_is_final : (s : Setup) (rs : List Reply) (t : Termination) → (run s rs).phase ≡ Phase.ended t → (r : Reply) → check_due (run s rs) r ≡ refuse 13 0 0

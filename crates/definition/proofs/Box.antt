@@ -4,7 +4,7 @@ use Prim.Native.Nat.{ℕ, ◌<◌}
 use mathlib.Core.Path.{◌≡◌, sym, ap, ◌∙◌, subst}
 use mathlib.Core.Bool.{true, false, false≢true}
 use mathlib.Core.List.{List}
-use mathlib.Core.Option.{Option, some}
+use Rattle.std.specs.Prelude.{Option, Some}
 use lib.Ieee.{Float, is_nan}
 use lib.Ieee.Bits.{is_false}
 use Rattle.definition.specs.Vector.{word}
@@ -21,7 +21,7 @@ use Rattle.definition.proofs.Trials.{step_le_limit}
 use Rattle.definition.proofs.Inside.{probe_of, probe_in_box}
 use Rattle.definition.proofs.Questions.{Line, AtPlace, FactsIn, at_question}
 
-given_some : {A : Type 0} (P : A → Type 0) (o : Option A) {a : A} → Given P o → o ≡ some a → P a
+given_some : {A : Type 0} (P : A → Type 0) (o : Option A) {a : A} → Given P o → o ≡ Some a → P a
 given_some P o h e = rw e at h
 
 -- ---- in the machine's own terms
@@ -68,7 +68,7 @@ module _ (s : Setup) (rs : List Reply) (accepted : Accepted s) (due : Due s rs) 
   pub trial_in_box : InBox (terms_of s) (run s rs).trial.x
   trial_in_box = in_terms (λ (t : Terms). InBox t m.trial.x) (at_question s accepted rs due).placed.trial
 
-  pub asked_in_box : (q : Question) → question (run s rs) ≡ some q → InBox (terms_of s) q.point
+  pub asked_in_box : (q : Question) → question (run s rs) ≡ Some q → InBox (terms_of s) q.point
   asked_in_box q e =
       let h = at_question s accepted rs due in
       let found = asked_in m m.phase h.placed.held h.placed.trial h.facts in
@@ -78,12 +78,12 @@ module _ (s : Setup) (rs : List Reply) (accepted : Accepted s) (due : Due s rs) 
   pub held_not_nan : (i : ℕ) → i < dimension s → is_nan (word (run s rs).held.x i) ≡ false
   held_not_nan = in_box_not_nan (terms_of s) m.held.x held_in_box
 
-  pub asked_not_nan : (q : Question) → question (run s rs) ≡ some q → (i : ℕ) → i < dimension s → is_nan (word q.point i) ≡ false
+  pub asked_not_nan : (q : Question) → question (run s rs) ≡ Some q → (i : ℕ) → i < dimension s → is_nan (word q.point i) ≡ false
   asked_not_nan q e = in_box_not_nan (terms_of s) q.point (asked_in_box q e)
 
   -- a probe moves one coordinate, to a finite value
   pub probe_finite :
-      (w : Place) (i : ℕ) (side : Side) → (run s rs).phase ≡ Phase.probe w i side → (q : Question) → question (run s rs) ≡ some q
+      (w : Place) (i : ℕ) (side : Side) → (run s rs).phase ≡ Phase.probe w i side → (q : Question) → question (run s rs) ≡ Some q
       → ProbeOf (terms_of s) (run s rs).trial.x i side q.point
   probe_finite w i side e q k =
       let P : Terms → Question → Type 0 = λ t z. ProbeOf t m.trial.x i side z.point in

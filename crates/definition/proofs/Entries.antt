@@ -7,7 +7,7 @@ use native.Mathlib.Omega.{arith}
 use mathlib.Core.Path.{◌≡◌, refl, sym, ap, ap₂, ◌∙◌, subst}
 use mathlib.Core.Bool.{Bool, true, false, cond}
 use mathlib.Core.List.{List, [], ◌∷◌, ◌++◌, append_assoc, append-nil}
-use mathlib.Core.Option.{Option, none, some}
+use Rattle.std.specs.Prelude.{Option, None, Some}
 use lib.Dec.{eqb, ltb}
 use lib.ListN.{length, take, drop, length-append, take-append-drop}
 use lib.Seq.{take_at, drop_at, length-take-le}
@@ -24,11 +24,11 @@ use Rattle.definition.proofs.Accepted.{due_length}
 -- ---- one entry, from its words
 
 module _ (room : ℕ) (rs : List Reply) (m : Machine) (rest : List ℕ) where
-  admitted : (r : Reply) (ws : List ℕ) → check_due m r ≡ none → length (log_words rs) + length (entry_words r) ≤ room → drop (length (entry_words r) - 1) ws ≡ rest
-      → admit room ws rs m (some r) ≡ Entries.going rest (r ∷ rs) (answer m r)
+  admitted : (r : Reply) (ws : List ℕ) → check_due m r ≡ None → length (log_words rs) + length (entry_words r) ≤ room → drop (length (entry_words r) - 1) ws ≡ rest
+      → admit room ws rs m (Some r) ≡ Entries.going rest (r ∷ rs) (answer m r)
   admitted r ws due fits e = rw (due, le-ltb room (length (log_words rs) + length (entry_words r)) fits, e)
 
-  pub entry_read : (r : Reply) → check_due m r ≡ none → length (log_words rs) + length (entry_words r) ≤ room
+  pub entry_read : (r : Reply) → check_due m r ≡ None → length (log_words rs) + length (entry_words r) ≤ room
       → next_entry room (entry_words r ++ rest) rs m ≡ Entries.going rest (r ∷ rs) (answer m r)
   entry_read (Reply.value v) d f = admitted (Reply.value v) (v ∷ rest) d f refl
   entry_read (Reply.gradient ws) d f =
@@ -94,8 +94,8 @@ module _ (s : Setup) (room : ℕ) where
 -- ---- one entry read spells its words
 
 abbrev Spells : ℕ → List ℕ → Option Reply → Type 0
-Spells k ws none = Unit {0}
-Spells k ws (some r) = entry_words r ++ drop (length (entry_words r) - 1) ws ≡ k ∷ ws
+Spells k ws None = Unit {0}
+Spells k ws (Some r) = entry_words r ++ drop (length (entry_words r) - 1) ws ≡ k ∷ ws
 
 spells_value : (k : ℕ) (ws : List ℕ) → 1 ≡ k → Spells k ws (value_entry ws)
 spells_value k [] e = tt
@@ -104,7 +104,7 @@ spells_value k (v ∷ ws) e = ap (λ (j : ℕ). j ∷ v ∷ ws) e
 spells_gradient : (n k : ℕ) (ws : List ℕ) → 2 ≡ k → Spells k ws (gradient_entry n ws)
 spells_gradient n k ws e = go (ltb (length ws) n) refl
   where
-    go : (t : Bool) → ltb (length ws) n ≡ t → Spells k ws (cond t none (some (Reply.gradient (take n ws))))
+    go : (t : Bool) → ltb (length ws) n ≡ t → Spells k ws (cond t None (Some (Reply.gradient (take n ws))))
     go true h = tt
     go false h =
         let size : suc (length (take n ws)) - 1 ≡ n = omega (arith, length-take-le n ws (ltb-false (length ws) n h)) in
@@ -140,11 +140,11 @@ module _ (s : Setup) (room : ℕ) (all : List ℕ) where
   Reads k (Entries.refused_at c) = Unit {0}
   Reads k (Entries.going ws rs m) = Read s room all ws rs × (m ≡ run s rs) × (length rs ≡ k)
 
-  reads_due : (k : ℕ) (ws : List ℕ) (rs : List Reply) (m : Machine) (r : Reply) → Spells k ws (some r) → Read s room all (k ∷ ws) rs → m ≡ run s rs
+  reads_due : (k : ℕ) (ws : List ℕ) (rs : List Reply) (m : Machine) (r : Reply) → Spells k ws (Some r) → Read s room all (k ∷ ws) rs → m ≡ run s rs
       → (c : Check) → check_due m r ≡ c → Reads (suc (length rs)) (admit_due room ws rs m r c)
   unfolding run
-  reads_due k ws rs m r spelled h e (some c) due = tt
-  reads_due k ws rs m r spelled h e none due = go (ltb room (length (log_words rs) + length (entry_words r))) refl
+  reads_due k ws rs m r spelled h e (Some c) due = tt
+  reads_due k ws rs m r spelled h e None due = go (ltb room (length (log_words rs) + length (entry_words r))) refl
     where
       go : (t : Bool) → ltb room (length (log_words rs) + length (entry_words r)) ≡ t
           → Reads (suc (length rs)) (cond t (Entries.refused_at 12) (Entries.going (drop (length (entry_words r) - 1) ws) (r ∷ rs) (answer m r)))
@@ -161,8 +161,8 @@ module _ (s : Setup) (room : ℕ) (all : List ℕ) where
 
   reads_admit : (k : ℕ) (ws : List ℕ) (rs : List Reply) (m : Machine) (o : Option Reply) → Spells k ws o → Read s room all (k ∷ ws) rs → m ≡ run s rs
       → Reads (suc (length rs)) (admit room ws rs m o)
-  reads_admit k ws rs m none spelled h e = tt
-  reads_admit k ws rs m (some r) spelled h e = reads_due k ws rs m r spelled h e (check_due m r) refl
+  reads_admit k ws rs m None spelled h e = tt
+  reads_admit k ws rs m (Some r) spelled h e = reads_due k ws rs m r spelled h e (check_due m r) refl
 
   reads_next : (ws : List ℕ) (rs : List Reply) (m : Machine) → Read s room all ws rs → m ≡ run s rs → Reads (suc (length rs)) (next_entry room ws rs m)
   reads_next [] rs m h e = h
@@ -202,8 +202,8 @@ Alike a b = (a ≡ b) × Unshort a
 module _ (s : Setup) (room large : ℕ) (all : List ℕ) (fits : length all ≤ room) (fits-large : length all ≤ large) where
   due_alike : (ws : List ℕ) (rs : List Reply) (m : Machine) (r : Reply) (c : Check) → length (log_words rs) + length (entry_words r) ≤ length all
       → Alike (admit_due room ws rs m r c) (admit_due large ws rs m r c)
-  due_alike ws rs m r (some c) h = (refl, refl)
-  due_alike ws rs m r none h =
+  due_alike ws rs m r (Some c) h = (refl, refl)
+  due_alike ws rs m r None h =
       let size = length (log_words rs) + length (entry_words r) in
       rw (le-ltb room size (omega arith), le-ltb large size (omega arith)) (refl, tt)
 
@@ -212,8 +212,8 @@ module _ (s : Setup) (room large : ℕ) (all : List ℕ) (fits : length all ≤ 
   next_alike (k ∷ ws) rs m h = go (entry_of m.terms.n k ws) (spells_entry m.terms.n k ws)
     where
       go : (o : Option Reply) → Spells k ws o → Alike (admit room ws rs m o) (admit large ws rs m o)
-      go none spelled = (refl, refl)
-      go (some r) spelled =
+      go None spelled = (refl, refl)
+      go (Some r) spelled =
           due_alike ws rs m r (check_due m r) (omega (arith, simp length-append at (ap length spelled), simp length-append at (ap length h)))
 
   one_alike : (k : ℕ) (e : Entries) → Reads s room all k e → Unshort e → Alike (one_more room e) (one_more large e)

@@ -3,7 +3,7 @@
 use Prim.Native.Nat.{ℕ}
 use mathlib.Core.Path.{◌≡◌, refl}
 use mathlib.Core.List.{List, [], ◌∷◌}
-use mathlib.Core.Option.{Option, none, some}
+use Rattle.std.specs.Prelude.{Option, None, Some}
 use lib.Ieee.{Float}
 use Rattle.definition.specs.Number.{zero64, one64, to_word}
 use Rattle.definition.specs.Machine.{Reply, Question}
@@ -20,7 +20,7 @@ abbrev lengths : ℕ → ℕ → Lengths
 lengths area log = record { area = area; log = log }
 
 abbrev value_at : Float → Option Question
-value_at x = some (record { kind = 1; point = x ∷ [] })
+value_at x = Some (record { kind = 1; point = x ∷ [] })
 
 abbrev fitted : Book
 fitted = book parabola parabola_replies
@@ -41,7 +41,7 @@ answers ((c gives a) ∷ ss) = a ∷ answers ss
 abbrev pub script : List Step
 script =
     -- nothing is held
-    (Call.question 0 gives Answer.asked none)
+    (Call.question 0 gives Answer.asked None)
     ∷ (Call.report 1 gives refused 15 0 0)
     ∷ (Call.reply Reply.failure gives refused 13 0 0)
     ∷ (Call.take_back 1 gives refused 16 0 0)
@@ -49,7 +49,7 @@ script =
     ∷ (Call.replies gives Answer.counted 0)
     ∷ (Call.entry 0 0 gives Answer.entered [])
     ∷ (Call.save 0 gives Answer.saved [])
-    ∷ (Call.start (setup [] none none none) gives refused 1 0 0)
+    ∷ (Call.start (setup [] None None None) gives refused 1 0 0)
     -- a fit is opened
     ∷ (Call.start parabola gives Answer.done)
     ∷ (Call.question 0 gives refused 19 1 0)
@@ -68,7 +68,7 @@ script =
     ∷ (Call.reply (Reply.gradient (to_word zero64 ∷ [])) gives Answer.done)
     ∷ (Call.reply Reply.go_on gives Answer.done)
     -- the fit has ended
-    ∷ (Call.question 0 gives Answer.asked none)
+    ∷ (Call.question 0 gives Answer.asked None)
     ∷ (Call.report 0 gives refused 19 1 0)
     ∷ (Call.report 1 gives Answer.reported (reported 1 1 2 2 zero64 zero64))
     ∷ (Call.reply Reply.go_on gives refused 13 0 0)

@@ -4,7 +4,7 @@ use native.Mathlib.Omega.{arith}
 use mathlib.Core.Path.{◌≡◌, refl, sym, ap, ◌∙◌, subst}
 use mathlib.Core.Bool.{Bool, true, false, false≢true, cond}
 use mathlib.Core.List.{List, [], ◌∷◌, ◌++◌}
-use mathlib.Core.Option.{none, some}
+use Rattle.std.specs.Prelude.{None, Some}
 use lib.Dec.{ltb}
 use lib.ListN.{length, drop}
 use borrow.Author.Tests.{ltb-false}
@@ -54,8 +54,8 @@ read_left z History.empty (Call.save room) e = refl
 read_left z (History.fit b) (Call.save room) e = refl
 
 left_same : (c : Check) (h left : History) → left ≡ h → left_by c h left ≡ h
-left_same none h left e = e
-left_same (some r) h left e = refl
+left_same None h left e = e
+left_same (Some r) h left e = refl
 
 pub read_stays : (z : Lengths) (h : History) (c : Call) → is_read c ≡ true → history_step z h c ≡ h
 read_stays z h c e = left_same (call_row z h c).check h (call_row z h c).left (read_left z h c e)
@@ -68,15 +68,15 @@ Held I (History.fit b) = I b
 
 -- I is true of a fit that a call makes, if C is true of the call
 record Kept (z : Lengths) (C : Call → Type 0) (I : Book → Type 0) : Type 0 where
-  started : (s : Setup) → C (Call.start s) → (validate s then check_area z s) ≡ none → I (opened_book s)
+  started : (s : Setup) → C (Call.start s) → (validate s then check_area z s) ≡ None → I (opened_book s)
   restored : (bs : List ℕ) (b : Book) → C (Call.restore bs) → read_record z bs ≡ Reading.accepted b → I b
-  replied : (b : Book) (r : Reply) → C (Call.reply r) → I b → check_reply z b r ≡ none → I (with_reply r b)
+  replied : (b : Book) (r : Reply) → C (Call.reply r) → I b → check_reply z b r ≡ None → I (with_reply r b)
   struck : (b : Book) (j : ℕ) → I b → I (struck j b)
 
 module _ (z : Lengths) (C : Call → Type 0) (I : Book → Type 0) (k : Kept z C I) where
-  held_by : (c : Check) (h left : History) → Held I h → (c ≡ none → Held I left) → Held I (left_by c h left)
-  held_by none h left b f = f refl
-  held_by (some r) h left b f = b
+  held_by : (c : Check) (h left : History) → Held I h → (c ≡ None → Held I left) → Held I (left_by c h left)
+  held_by None h left b f = f refl
+  held_by (Some r) h left b f = b
 
   held_restored : (h : History) (r : Reading) → Held I h → ((b : Book) → r ≡ Reading.accepted b → I b) → Held I (restored h r)
   held_restored h (Reading.accepted b) a f = f b refl
@@ -117,8 +117,8 @@ log_struck zero rs = omega arith
 log_struck (suc j) [] = omega arith
 log_struck (suc j) (r ∷ rs) = omega (arith, log_struck j rs, log_more r rs)
 
-pub reply_fits : (z : Lengths) (b : Book) (r : Reply) → check_reply z b r ≡ none
-    → (check_due (run_of b) r ≡ none) × (length (log_of (with_reply r b)) ≤ z.log)
+pub reply_fits : (z : Lengths) (b : Book) (r : Reply) → check_reply z b r ≡ None
+    → (check_due (run_of b) r ≡ None) × (length (log_of (with_reply r b)) ≤ z.log)
 reply_fits z b r e =
     let full = ltb z.log (length (log_of b) + length (entry_words r)) in
     let p = both_passed (check_due (run_of b) r) (when full (refuse 12 0 0)) e in
@@ -167,8 +167,8 @@ history_values z cs b a e = subst (Held Valued) e (held_after z Brings Valued (v
 -- ---- a refused call leaves the history as it was, but for a restore that is refused at an entry
 
 by_refused : (c : Check) (h left : History) (r : Refusal) → refused_by c Answer.done ≡ Answer.refused r → left_by c h left ≡ h
-by_refused none h left r e = cc
-by_refused (some b) h left r e = refl
+by_refused None h left r e = cc
+by_refused (Some b) h left r e = refl
 
 pub refused_leaves : (z : Lengths) (h : History) (c : Call) (r : Refusal) → history_answer z h c ≡ Answer.refused r
     → history_step z h c ≡ cond (refused_at_entry z c) History.empty h
@@ -201,8 +201,8 @@ save_accepted : (z : Lengths) (b : Book) (room : ℕ) (bs : List ℕ) → histor
 save_accepted z b room bs e = go (call_row z (History.fit b) (Call.save room)).check e
   where
     go : (c : Check) → refused_by c (Answer.saved (record_bytes b)) ≡ Answer.saved bs → bs ≡ record_bytes b
-    go none e = cc
-    go (some r) e = let z : ◌≡◌ {A = ℕ} 0 1 = cc in absurd (omega arith)
+    go None e = cc
+    go (Some r) e = let z : ◌≡◌ {A = ℕ} 0 1 = cc in absurd (omega arith)
 
 -- what a fit saved after any calls, behind any bytes, is restored to where area and log are long enough, whatever was there
 module _ (z : Lengths) (cs : List Call) (b : Book) (room : ℕ) (bs : List ℕ)

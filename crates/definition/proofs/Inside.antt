@@ -4,7 +4,7 @@ use native.Mathlib.Omega.{arith}
 use mathlib.Core.Path.{◌≡◌, refl, ap}
 use mathlib.Core.Bool.{Bool, true, false, cond, ◌&&◌, false≢true}
 use mathlib.Core.List.{List, [], ◌∷◌}
-use mathlib.Core.Option.{Option, none, some}
+use Rattle.std.specs.Prelude.{Option, None, Some}
 use lib.Dec.{T}
 use lib.ListN.{set}
 use lib.Ieee.{Float, nan, is_nan, lt, eq, le}
@@ -36,8 +36,8 @@ side_not_nan n side h i l = not_nan (word side i) (each_at Plain side i nan h.pl
 bounds_ordered : (n : ℕ) (o : Option Bounds) → Given (Sides n) o → (i : ℕ) → i < n
     → T (le (word (or_else o (open_bounds n)).lower i) (word (or_else o (open_bounds n)).upper i))
 unfolding le
-bounds_ordered n none h i l = rw (get_or-tab n (λ j. neg_infinity) i, get_or-tab n (λ j. infinity) i) tt
-bounds_ordered n (some b) h i l =
+bounds_ordered n None h i l = rw (get_or-tab n (λ j. neg_infinity) i, get_or-tab n (λ j. infinity) i) tt
+bounds_ordered n (Some b) h i l =
     le_of_not_lt (word b.upper i) (word b.lower i) (side_not_nan n b.upper h.upper i l) (side_not_nan n b.lower h.lower i l) (h.ordered i l)
 
 pub accepted_ordered : (s : Setup) → Accepted s → BoundsOrdered (terms_of s)

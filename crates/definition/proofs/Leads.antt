@@ -5,7 +5,7 @@ use native.Mathlib.Omega.{arith}
 use mathlib.Core.Path.{◌≡◌, refl, sym, ap, ◌∙◌}
 use mathlib.Core.Bool.{Bool, true, false, false≢true}
 use mathlib.Core.List.{List, map}
-use mathlib.Core.Option.{Option, none, some}
+use Rattle.std.specs.Prelude.{Option, None, Some}
 use lib.Dec.{eqb}
 use lib.ListN.{set}
 use lib.Ieee.{Float}
@@ -35,7 +35,7 @@ pub record Leads (G : Place → Machine → Type 0) (S A Q : Machine → Type 0)
   pub headed : (m : Machine) (d : List Float) → S m → S (heading d m)
   pub begun :
       (m : Machine) (end : List Float) (r : Search) → S m → m.direction ≡ difference m.terms.n end m.held.x
-      → begin_search m.terms.n m.terms.bounds m.held.x m.held.g m.direction ≡ some r → A (aiming r m)
+      → begin_search m.terms.n m.terms.bounds m.held.x m.held.g m.direction ≡ Some r → A (aiming r m)
   pub asked : (m : Machine) → A m → Q (asking (Phase.value Place.trial) m)
   pub counted : (w : Place) (m : Machine) → G w m → G w (gathered m)
   pub supplied : (w : Place) (g : List Float) (m : Machine) → G w m → G w (with_gradient g m)
@@ -45,7 +45,7 @@ pub record Leads (G : Place → Machine → Type 0) (S A Q : Machine → Type 0)
       → Q (asking (Phase.probe w i side) m)
   pub steep : (m : Machine) → G Place.start m → gradient_finite m ≡ true → S (holding m.trial m)
   pub again :
-      (m : Machine) (r : Search) → G Place.trial m → after_trial m.search m.held.f m.trial.f (trial_slope m) ≡ some r → A (aiming r m)
+      (m : Machine) (r : Search) → G Place.trial m → after_trial m.search m.held.f m.trial.f (trial_slope m) ≡ Some r → A (aiming r m)
   pub moved :
       (m : Machine) → G Place.trial m → gradient_finite m ≡ true → accepts m.search m.held.f m.trial.f (trial_slope m) ≡ true
       → Q (move (learn m))
@@ -72,11 +72,11 @@ module _ {G : Place → Machine → Type 0} {S A Q : Machine → Type 0} (k : Le
   -- ---- the next trial
 
   search_leads :
-      (m : Machine) (o : Option Search) → Q (ending Termination.line_search_failed m) → ((r : Search) → o ≡ some r → A (aiming r m))
+      (m : Machine) (o : Option Search) → Q (ending Termination.line_search_failed m) → ((r : Search) → o ≡ Some r → A (aiming r m))
       → Q (by_verdict m (or_failed o))
   unfolding try_step ask_value
-  search_leads m none h next = h
-  search_leads m (some r) h next =
+  search_leads m None h next = h
+  search_leads m (Some r) h next =
       let a = next r refl in
       by_test Q (value_left m.limits m.counters) (λ _. k.asked (aiming r m) a) (λ _. k.aimed_ends Termination.max_evaluations (aiming r m) a)
 
@@ -90,15 +90,15 @@ module _ {G : Place → Machine → Type 0} {S A Q : Machine → Type 0} (k : Le
       (k.seeking_ends Termination.line_search_failed m' h') (λ r. k.begun m' end r h' refl)
 
   model_leads : (m : Machine) (o : Option Ends) → S m → Q (by_model m o)
-  model_leads m none h = k.seeking_ends Termination.line_search_failed m h
-  model_leads m (some e) h = towards_leads e m h
+  model_leads m None h = k.seeking_ends Termination.line_search_failed m h
+  model_leads m (Some e) h = towards_leads e m h
 
   pairs_lead : (m : Machine) (o : Option Ends) → S m → Q (or_without_pairs m o)
   unfolding without_pairs
-  pairs_lead m none h =
+  pairs_lead m None h =
       by_test Q (eqb (count m.compact) 0) (λ _. k.seeking_ends Termination.line_search_failed m h)
       (λ _. model_leads (with_compact no_pairs m) (ends_of m.terms no_pairs m.held) (k.bare m h))
-  pairs_lead m (some e) h = towards_leads e m h
+  pairs_lead m (Some e) h = towards_leads e m h
 
   descend_leads : (m : Machine) → S m → Q (descend m)
   unfolding descend

@@ -4,7 +4,7 @@ use Prim.Native.Nat.{ℕ, zero, suc, ◌+◌, ◌-◌, ◌*◌, ◌≤◌}
 use mathlib.Core.Path.{◌≡◌, refl, sym, subst}
 use mathlib.Core.Bool.{Bool, true, false, false≢true, not, ◌&&◌, ◌||◌}
 use mathlib.Core.List.{List, [], ◌∷◌}
-use mathlib.Core.Option.{Option, none, some}
+use Rattle.std.specs.Prelude.{Option, None, Some}
 use lib.Dec.{T, eqb, ltb, leb, leb→le, eqb→eq}
 use lib.ListN.{length, get_or, drop}
 use lib.Ieee as Ieee
@@ -67,20 +67,20 @@ table_numbers c k e =
 
 -- a check that refuses, if at all, by a number of the row
 pub data Numbered (row : List ℕ) : Check → Type 0 where
-  passes : Numbered row none
-  refuses : {r : Refusal} → among r.number row ≡ true → Numbered row (some r)
+  passes : Numbered row None
+  refuses : {r : Refusal} → among r.number row ≡ true → Numbered row (Some r)
 
 pub wider : (a b : List ℕ) (c : Check) → all_of (λ (i : ℕ). among i b) a ≡ true → Numbered a c → Numbered b c
-wider a b none e h = Numbered.passes
-wider a b (some r) e (Numbered.refuses h) = Numbered.refuses (of_row (λ (i : ℕ). among i b) a r.number e h)
+wider a b None e h = Numbered.passes
+wider a b (Some r) e (Numbered.refuses h) = Numbered.refuses (of_row (λ (i : ℕ). among i b) a r.number e h)
 
 pub tested : {row : List ℕ} (t : Bool) (number a b : ℕ) → among number row ≡ true → Numbered row (when t (refuse number a b))
 tested true number a b e = Numbered.refuses e
 tested false number a b e = Numbered.passes
 
 pub both : {row : List ℕ} (a b : Check) → Numbered row a → Numbered row b → Numbered row (a then b)
-both none b h k = k
-both (some r) b h k = h
+both None b h k = k
+both (Some r) b h k = h
 
 each : {row : List ℕ} (n : ℕ) (check : ℕ → Check) → ((i : ℕ) → Numbered row (check i)) → Numbered row (each_index n check)
 unfolding fold_to
@@ -88,8 +88,8 @@ each zero check h = Numbered.passes
 each (suc n) check h = both (each_index n check) (check n) (each n check h) (h n)
 
 if_given : {row : List ℕ} {A : Type 0} (check : A → Check) (o : Option A) → ((a : A) → Numbered row (check a)) → Numbered row (given check o)
-if_given check none h = Numbered.passes
-if_given check (some a) h = h a
+if_given check None h = Numbered.passes
+if_given check (Some a) h = h a
 
 -- ---- a setup
 
@@ -177,8 +177,8 @@ Entered (Entries.refused_at c) = among c entry_row ≡ true
 Entered (Entries.going ws rs m) = Unit {0}
 
 entry_due : (room : ℕ) (ws : List ℕ) (rs : List Reply) (m : Machine) (r : Reply) (c : Check) → Entered (admit_due room ws rs m r c)
-entry_due room ws rs m r (some c) = refl
-entry_due room ws rs m r none =
+entry_due room ws rs m r (Some c) = refl
+entry_due room ws rs m r None =
     by_test Entered (ltb room (length (log_words rs) + length (entry_words r))) (λ _. refl) (λ _. tt)
 
 entry_next : (room : ℕ) (ws : List ℕ) (rs : List Reply) (m : Machine) → Entered (next_entry room ws rs m)
@@ -186,8 +186,8 @@ entry_next room [] rs m = tt
 entry_next room (k ∷ ws) rs m = go (entry_of m.terms.n k ws)
   where
     go : (o : Option Reply) → Entered (admit room ws rs m o)
-    go none = refl
-    go (some r) = entry_due room ws rs m r (check_due m r)
+    go None = refl
+    go (Some r) = entry_due room ws rs m r (check_due m r)
 
 entry_more : (room : ℕ) (e : Entries) → Entered e → Entered (one_more room e)
 entry_more room (Entries.kept rs) h = tt
@@ -205,8 +205,8 @@ ReadNumbered (Reading.refused c) = among c.number record_row ≡ true
 ReadNumbered (Reading.refused_at_entry c) = among c.number entry_row ≡ true
 
 unless : (c : Check) (r : Reading) → Numbered record_row c → ReadNumbered r → ReadNumbered (unless_refused c r)
-unless none r h k = k
-unless (some c) r (Numbered.refuses h) k = h
+unless None r h k = k
+unless (Some c) r (Numbered.refuses h) k = h
 
 reading : (s : Setup) (e : Entries) → Entered e → ReadNumbered (reading_of s e)
 reading s (Entries.kept rs) h = tt
@@ -250,8 +250,8 @@ pub short : {row : List ℕ} (room needed : ℕ) → among 19 row ≡ true → N
 short room needed e = tested (ltb room needed) 19 needed 0 e
 
 asks : (b : Book) (room : ℕ) (q : Option Question) → Numbered (19 ∷ []) (check_question b room q)
-asks b room none = Numbered.passes
-asks b room (some q) = short room (dimension b.setup) refl
+asks b room None = Numbered.passes
+asks b room (Some q) = short room (dimension b.setup) refl
 
 log_kept : {row : List ℕ} (z : Lengths) (b : Book) → among 12 row ≡ true → Numbered row (log_short z b)
 log_kept z b e = tested (ltb z.log (length (log_of b))) 12 0 0 e
@@ -267,8 +267,8 @@ AnswerNumbered row (Answer.saved bs) = Unit {0}
 
 -- by the check and, where it passes, by the answer
 pub answered : {numbers : List ℕ} (c : Check) (a : Answer) → Numbered numbers c → AnswerNumbered numbers a → AnswerNumbered numbers (refused_by c a)
-answered none a h k = k
-answered (some r) a (Numbered.refuses h) k = h
+answered None a h k = k
+answered (Some r) a (Numbered.refuses h) k = h
 
 pub restores : (r : Reading) → ReadNumbered r → AnswerNumbered record_row (restored_answer r)
 restores (Reading.accepted b) h = tt
@@ -291,9 +291,9 @@ answer_numbered z (History.fit b) (Call.question room) =
     answered (check_question b room (question (run_of b))) (Answer.asked (question (run_of b))) (asks b room (question (run_of b))) tt
 answer_numbered z History.empty (Call.report room) = refl
 answer_numbered z (History.fit b) (Call.report room) =
-    let none = unreported (run_of b).phase in
+    let None = unreported (run_of b).phase in
     let n = dimension b.setup in
-    answered {numbers = refusals_of (Call.report room)} _ _ (both (when none (refuse 15 0 0)) (output_short room n) (tested none 15 0 0 refl) (short room n refl)) tt
+    answered {numbers = refusals_of (Call.report room)} _ _ (both (when None (refuse 15 0 0)) (output_short room n) (tested None 15 0 0 refl) (short room n refl)) tt
 answer_numbered z History.empty Call.replies = tt
 answer_numbered z (History.fit b) Call.replies = tt
 answer_numbered z History.empty (Call.entry k room) = tt

@@ -4,7 +4,7 @@ use native.Mathlib.Omega.{arith}
 use mathlib.Core.Path.{◌≡◌, refl, ap, ◌∙◌, subst}
 use mathlib.Core.Bool.{true, false, not, cond, ◌&&◌, true≢false}
 use mathlib.Core.List.{List, [], ◌∷◌, ◌++◌, append_assoc}
-use mathlib.Core.Option.{Option, none, some}
+use Rattle.std.specs.Prelude.{Option, None, Some}
 use lib.Ieee.{Float}
 use Rattle.definition.specs.Number.{to_float}
 use Rattle.definition.specs.Problem.{Setup, or_else, either, projected_start}
@@ -71,9 +71,9 @@ module _ (H K N : Fact) where
 
 -- ---- what a list of replies says
 
-pub still_first : (o d : Option ℕ) (w : ℕ) → o ≡ some w → either o d ≡ some w
-still_first none d w e = let z : ◌≡◌ {A = ℕ} 0 1 = cc in absurd (omega arith)
-still_first (some v) d w e = e
+pub still_first : (o d : Option ℕ) (w : ℕ) → o ≡ Some w → either o d ≡ Some w
+still_first None d w e = let z : ◌≡◌ {A = ℕ} 0 1 = cc in absurd (omega arith)
+still_first (Some v) d w e = e
 
 module _ (s : Setup) where
   given_later : {w : Place} {rs : List Reply} {x : List Float} {f : Float} (r : Reply) → GivenAt w s rs x f → GivenAt w s (r ∷ rs) x f
@@ -131,9 +131,9 @@ module _ (s : Setup) (rs : List Reply) (r : Reply) where
 
   own_later : (o : Option (List Float)) (x : List Float) (f : Float) → OwnOf o s rs x f → takes_trial b r ≡ false → OwnOf o s (r ∷ rs) x f
   unfolding first_value given_later
-  own_later none x f h q =
+  own_later None x f h q =
       record { point = h.point; given = given_later s r h.given; first = still_first (first_value rs) (value_in r) h.given.word h.first }
-  own_later (some p) x f h q =
+  own_later (Some p) x f h q =
       let g = h.given in
       record { point = h.point; given = given_later s r g; last = taken_later (Reply.value g.word ∷ g.earlier) g.later g.split q h.last }
 
@@ -175,7 +175,7 @@ module _ (s : Setup) (rs : List Reply) (r : Reply) where
   unfolding given_later
   tried_later h = let g = h.3.0 in (given_later s r g, (subst (λ (l : List Reply). at_trial (run s l).phase ≡ false) g.split h.1, h.3.1))
 
-  taken_now : {x : List Float} {f : Float} → takes_trial b r ≡ true → Taking x f → OwnOf (some b.trial.x) s (r ∷ rs) x f
+  taken_now : {x : List Float} {f : Float} → takes_trial b r ≡ true → Taking x f → OwnOf (Some b.trial.x) s (r ∷ rs) x f
   unfolding given_later
   taken_now q h =
       let g = h.3.0 in
@@ -191,7 +191,7 @@ module _ (s : Setup) (rs : List Reply) (r : Reply) where
 
   next_stage :
       (m : Machine) (p : Phase) → (answer b r).phase ≡ p → NextIn Held Taking (Tried s (r ∷ rs)) m p
-      → StageIn s (cond (at_notice p && not (at_notice b.phase)) (some b.trial.x) (last_taken s rs)) (r ∷ rs) m p
+      → StageIn s (cond (at_notice p && not (at_notice b.phase)) (Some b.trial.x) (last_taken s rs)) (r ∷ rs) m p
   next_stage m (Phase.value Place.start) e h = absurd h
   next_stage m (Phase.value Place.trial) e h = h (takes_at e)
   next_stage m (Phase.gradient w) e h = (h.0 (takes_at e), at_map w (λ k. k (takes_at e)) (λ k. k) h.1)
@@ -227,8 +227,8 @@ pub held_point : (s : Setup) (rs : List Reply) → Due s rs → Reported s rs �
 held_point s rs d e = go (last_taken s rs) (held_is_own s rs d e)
   where
     go : (o : Option (List Float)) → Holding (OwnOf o s rs) (run s rs) → (run s rs).held.x ≡ or_else o (projected_start s)
-    go none h = h.point
-    go (some p) h = h.point
+    go None h = h.point
+    go (Some p) h = h.point
 
 -- the start's value is asked before any reply
 pub start_asked_first : (s : Setup) (rs : List Reply) → Due s rs → (run s rs).phase ≡ Phase.value Place.start → rs ≡ []

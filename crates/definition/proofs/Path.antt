@@ -5,7 +5,7 @@ use native.Mathlib.Omega.{arith}
 use mathlib.Core.Path.{◌≡◌, refl, sym, ap, ◌∙◌, subst}
 use mathlib.Core.Bool.{Bool, true, false, not, cond, ◌&&◌, false≢true}
 use mathlib.Core.List.{List, [], ◌∷◌}
-use mathlib.Core.Option.{Option, none, some}
+use Rattle.std.specs.Prelude.{Option, None, Some}
 use lib.Dec.{T, ltb}
 use lib.ListN.{length, get_or, get_or-eq_default}
 use lib.Ieee.{Float, nan, inf, fin, eq, lt, le, sub, neg, up, down}
@@ -123,7 +123,7 @@ module _ (n : ℕ) (b : Bounds) (x : List Float) (bs : List Break) (f : Each Fin
       next = (get_or bs p.event no_break).time
 
       go : (u : Bool) → finite least ≡ u → (v : Bool) → lt least (minus next p.previous) ≡ v → (w : Bool) → ltb p.event (length bs) ≡ w
-          → Leads p.event bs (cond (not u) (ended none) (cond v (ended (point_on_path n b x (travelled n least p))) (onward (passed n b x bs next p))))
+          → Leads p.event bs (cond (not u) (ended None) (cond v (ended (point_on_path n b x (travelled n least p))) (onward (passed n b x bs next p))))
       go false a v c w e = tt
       go true a true c w e = tt
       go true a false c true e = passed_one (ltb-true p.event (length bs) e)
@@ -139,10 +139,10 @@ module _ (n : ℕ) (b : Bounds) (x : List Float) (bs : List Break) (f : Each Fin
       (λ _. by_test (Leads p.event bs) (le zero64 slope) (λ _. tt) (λ _. leads_along (over (neg slope) curvature) k))
 
   leads_products : (slope : List Float → Float) (curvature : List Float → Float) (bd bz : Option (List Float)) → T (finite p.previous)
-      → Leads p.event bs (or_else (bd and_then λ u. bz and_then λ v. some (by_slope n b x bs p (slope v) (curvature u))) (ended none))
-  leads_products slope curvature none bz k = tt
-  leads_products slope curvature (some bd) none k = tt
-  leads_products slope curvature (some bd) (some bz) k = leads_slope (slope bz) (curvature bd) k
+      → Leads p.event bs (or_else (bd and_then λ u. bz and_then λ v. Some (by_slope n b x bs p (slope v) (curvature u))) (ended None))
+  leads_products slope curvature None bz k = tt
+  leads_products slope curvature (Some bd) None k = tt
+  leads_products slope curvature (Some bd) (Some bz) k = leads_slope (slope bz) (curvature bd) k
 
   leads_on : (c : Compact) (g : List Float) → T (finite p.previous) → Leads p.event bs (segment n b c x g bs p)
   unfolding segment

@@ -6,7 +6,7 @@ use mathlib.Core.Path.{◌≡◌, refl, ap, ap₂, subst}
 use mathlib.Core.Logic.{◌≢◌, ◌⊎◌, inl, inr}
 use mathlib.Core.Bool.{Bool, true, false, false≢true, not, cond}
 use mathlib.Core.List.{List, [], ◌∷◌, ◌++◌}
-use mathlib.Core.Option.{none, some}
+use Rattle.std.specs.Prelude.{None, Some}
 use lib.Dec.{eqb, ltb, leb, leb→le}
 use lib.ListN.{length, get_or, drop, length-drop}
 use lib.Ieee.{Float}
@@ -50,8 +50,8 @@ module _ (z large : Lengths) (a : Enough z) (b : Enough large) where
   area_alike s = go (validate s) refl
     where
       go : (c : Check) → validate s ≡ c → (c then check_area z s) ≡ (c then check_area large s)
-      go (some r) e = refl
-      go none e =
+      go (Some r) e = refl
+      go None e =
           let k = area_bounded s e in
           rw (le-ltb z.area (area_needed s) (omega (arith, k, a.area)), le-ltb large.area (area_needed s) (omega (arith, k, b.area)))
 
@@ -98,16 +98,16 @@ InputNumbered (Reading.refused c) = among c.number input_row ≡ true
 InputNumbered (Reading.refused_at_entry c) = c.number ≡ 17
 
 unless : (c : Check) (r : Reading) → Numbered input_row c → InputNumbered r → InputNumbered (unless_refused c r)
-unless none r h k = k
-unless (some c) r (Numbered.refuses h) k = h
+unless None r h k = k
+unless (Some c) r (Numbered.refuses h) k = h
 
 module _ (z : Lengths) (a : Enough z) where
   area_enough : (s : Setup) → Numbered input_row (validate s then check_area z s)
   area_enough s = go (validate s) refl (wider setup_row input_row (validate s) refl (setup_numbered s))
     where
       go : (c : Check) → validate s ≡ c → Numbered input_row c → Numbered input_row (c then check_area z s)
-      go (some r) e h = h
-      go none e h = rw (le-ltb z.area (area_needed s) (omega (arith, area_bounded s e, a.area))) Numbered.passes
+      go (Some r) e h = h
+      go None e h = rw (le-ltb z.area (area_needed s) (omega (arith, area_bounded s e, a.area))) Numbered.passes
 
   rest_enough : (s : Setup) (ws : List ℕ) → length ws ≤ input_log → InputNumbered (reading_of s (entries_of s z.log ws))
   rest_enough s ws h =

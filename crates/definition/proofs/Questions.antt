@@ -4,7 +4,7 @@ use Prim.Native.Nat.{ℕ, ◌<◌}
 use mathlib.Core.Path.{◌≡◌, refl, sym, ap, ◌∙◌, subst}
 use mathlib.Core.Bool.{true, false, true≢false}
 use mathlib.Core.List.{List, [], ◌∷◌}
-use mathlib.Core.Option.{some}
+use Rattle.std.specs.Prelude.{Some}
 use lib.Dec.{T}
 use lib.Ieee.{Float, binary64, fits, le}
 use lib.Ieee.Bits.{of_bits-fits}
@@ -120,14 +120,14 @@ module _ (s : Setup) (ordered : BoundsOrdered (terms_of s)) (b : Machine) where
 
   first_aimed :
       (m : Machine) (end : List Float) (r : Search) → Seeking m → m.direction ≡ difference m.terms.n end m.held.x
-      → begin_search m.terms.n m.terms.bounds m.held.x m.held.g m.direction ≡ some r → Aimed (aiming r m)
+      → begin_search m.terms.n m.terms.bounds m.held.x m.held.g m.direction ≡ Some r → Aimed (aiming r m)
   first_aimed m end r h e q =
       let k = begun_running m.terms.n m.terms.bounds m.held.x m.held.g m.direction r q in
       let point = finite_start m.terms.n end m.held.x m.direction e k.0 in
       aimed m r h.0 h.1 (record { standing = h.2; point = point; direction = k.0; search = k.1 })
 
   next_aimed :
-      (m : Machine) (r : Search) → Gathering Place.trial m → after_trial m.search m.held.f m.trial.f (trial_slope m) ≡ some r → Aimed (aiming r m)
+      (m : Machine) (r : Search) → Gathering Place.trial m → after_trial m.search m.held.f m.trial.f (trial_slope m) ≡ Some r → Aimed (aiming r m)
   next_aimed m r h q =
       let k = h.2.place in
       let search = next_running m.search m.held.f m.trial.f (trial_slope m) k.search r q in

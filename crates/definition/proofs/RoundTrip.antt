@@ -6,7 +6,7 @@ use mathlib.Core.Path.{◌≡◌, refl, sym, ap, ap₂, ◌∙◌, subst}
 use mathlib.Core.Logic.{◌≢◌}
 use mathlib.Core.Bool.{false, not}
 use mathlib.Core.List.{List, [], ◌∷◌, ◌++◌, append-nil}
-use mathlib.Core.Option.{none, some}
+use Rattle.std.specs.Prelude.{None, Some}
 use lib.Dec.{ltb}
 use lib.ListN.{length, get_or, set, drop, length-append, take-append-drop, get_or-append}
 use lib.Seq.{drop_at, set-append_left}
@@ -48,7 +48,7 @@ module _ (z : Lengths) (b : Book) (ok : Sound z b) (f : SetupFloats b.setup) whe
   abbrev saved : List ℕ
   saved = setup_words b.setup ++ log_of b
 
-  saved_checked : check_words z saved (sums saved).plain (sums saved).running ≡ none
+  saved_checked : check_words z saved (sums saved).plain (sums saved).running ≡ None
   unfolding check_words setup_words
   saved_checked =
       let a = ok.accepted in
@@ -108,9 +108,9 @@ record Accepting (z : Lengths) (ws : List ℕ) (p q : ℕ) (b : Book) : Type 0 w
   setup : setup_in ws ≡ b.setup
   entries : entries_of (setup_in ws) z.log (drop (setup_length (get_or ws 0 0)) ws) ≡ Entries.kept b.replies
 
-unless_accepted : (c : Check) (r : Reading) (b : Book) → unless_refused c r ≡ Reading.accepted b → (c ≡ none) × (r ≡ Reading.accepted b)
-unless_accepted none r b e = (refl, e)
-unless_accepted (some c) r b e = let z : ◌≡◌ {A = ℕ} 0 1 = cc in absurd (omega arith)
+unless_accepted : (c : Check) (r : Reading) (b : Book) → unless_refused c r ≡ Reading.accepted b → (c ≡ None) × (r ≡ Reading.accepted b)
+unless_accepted None r b e = (refl, e)
+unless_accepted (Some c) r b e = let z : ◌≡◌ {A = ℕ} 0 1 = cc in absurd (omega arith)
 
 kept_accepted : (t : Setup) (e : Entries) (b : Book) → reading_of t e ≡ Reading.accepted b → (t ≡ b.setup) × (e ≡ Entries.kept b.replies)
 kept_accepted t (Entries.kept qs) b h = (cc, cc)

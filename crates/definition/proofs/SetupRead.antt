@@ -4,7 +4,7 @@ use native.Mathlib.Omega.{arith}
 use mathlib.Core.Path.{◌≡◌, refl, sym, ap, ap₂, ◌∙◌}
 use mathlib.Core.Bool.{Bool, true, false, cond}
 use mathlib.Core.List.{List, [], ◌∷◌, ◌++◌, map, append-nil}
-use mathlib.Core.Option.{none, some}
+use Rattle.std.specs.Prelude.{None, Some}
 use lib.Dec.{eqb}
 use lib.ListN.{length, get_or, take, drop, length-drop, length-map}
 use lib.Seq.{take-add, drop-drop, length-take-le}
@@ -31,7 +31,7 @@ floats_read (w ∷ ws) = (of_bits-fits binary64 w, floats_read ws)
 option_read : (w : ℕ) → Given Binary64 (float_given w)
 option_read w = go (eqb w absent)
   where
-    go : (t : Bool) → Given Binary64 (cond t none (some (to_float w)))
+    go : (t : Bool) → Given Binary64 (cond t None (Some (to_float w)))
     go true = tt
     go false = of_bits-fits binary64 w
 
@@ -49,7 +49,7 @@ setup_read ws = record {
   eps = option_read (get_or ws 6 0);
 }
   where
-    box : (n : ℕ) (t : Bool) → Given BoxFloats (cond t (some (box_at ws n)) none)
+    box : (n : ℕ) (t : Bool) → Given BoxFloats (cond t (Some (box_at ws n)) None)
     box n true = (floats_read (take n (drop (7 + n) ws)), floats_read (take n (drop (7 + 2 * n) ws)))
     box n false = tt
 
@@ -62,21 +62,21 @@ words_back (w ∷ ws) h p = ap₂ (λ (v : ℕ) (vs : List ℕ). v ∷ vs) (word
 word_of_option : (w : ℕ) → w < word_size → Given Finite (float_given w) → optional_float (float_given w) ≡ w
 word_of_option w h f = go (eqb w absent) refl f
   where
-    go : (t : Bool) → eqb w absent ≡ t → Given Finite (cond t none (some (to_float w))) → optional_float (cond t none (some (to_float w))) ≡ w
+    go : (t : Bool) → eqb w absent ≡ t → Given Finite (cond t None (Some (to_float w))) → optional_float (cond t None (Some (to_float w))) ≡ w
     go true e f = sym (eqb-true w absent e)
     go false e f = word_back w h (finite_plain (to_float w) f)
 
 word_of_count : (k : ℕ) → or_else (count_given k) 0 ≡ k
 word_of_count k = go (eqb k 0) refl
   where
-    go : (t : Bool) → eqb k 0 ≡ t → or_else (cond t none (some k)) 0 ≡ k
+    go : (t : Bool) → eqb k 0 ≡ t → or_else (cond t None (Some k)) 0 ≡ k
     go true e = sym (eqb-true k 0 e)
     go false e = refl
 
 shape_whole : (w : ℕ) → w < 262144 → n_in w + 256 * maxcor_in w + 65536 * (w / 65536 % 2 + 2 * (w / 131072 % 2)) ≡ w
 shape_whole w h = omega arith
 
-box_flag_lem : (k : ℕ) (b : Bounds) → k < 2 → box_flag (cond (eqb k 1) (some b) none) ≡ k
+box_flag_lem : (k : ℕ) (b : Bounds) → k < 2 → box_flag (cond (eqb k 1) (Some b) None) ≡ k
 box_flag_lem zero b h = refl
 box_flag_lem (suc zero) b h = refl
 box_flag_lem (suc (suc k)) b h = absurd (omega arith)
@@ -108,8 +108,8 @@ module _ (ws : List ℕ) (h : Words ws) where
   floats_word : (k n : ℕ) → Each Plain (floats_at ws k n) → map to_word (floats_at ws k n) ≡ take n (drop k ws)
   floats_word k n p = words_back (take n (drop k ws)) (each_take _ n (drop k ws) (each_drop _ k ws h)) p
 
-  point_words : (n m : ℕ) (t : Bool) → Each Plain (floats_at ws 7 n) → Given (Sides m) (cond t (some (box_at ws n)) none)
-      → map to_word (floats_at ws 7 n) ++ bound_words (cond t (some (box_at ws n)) none) ≡ take (cond t (3 * n) n) (drop 7 ws)
+  point_words : (n m : ℕ) (t : Bool) → Each Plain (floats_at ws 7 n) → Given (Sides m) (cond t (Some (box_at ws n)) None)
+      → map to_word (floats_at ws 7 n) ++ bound_words (cond t (Some (box_at ws n)) None) ≡ take (cond t (3 * n) n) (drop 7 ws)
   point_words n m false p b = append-nil (map to_word (floats_at ws 7 n)) ∙ floats_word 7 n p
   point_words n m true p b =
       ap₂ ◌++◌ (floats_word 7 n p) (ap₂ ◌++◌ (floats_word (7 + n) n b.lower.plain) (floats_word (7 + 2 * n) n b.upper.plain))

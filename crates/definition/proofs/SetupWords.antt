@@ -4,7 +4,7 @@ use native.Mathlib.Omega.{arith}
 use mathlib.Core.Path.{◌≡◌, refl, sym, ap, ap₂, ◌∙◌, subst}
 use mathlib.Core.Bool.{Bool, not, false≢true}
 use mathlib.Core.List.{List, [], ◌∷◌, ◌++◌, map, append_assoc}
-use mathlib.Core.Option.{Option, none, some}
+use Rattle.std.specs.Prelude.{Option, None, Some}
 use lib.Dec.{T}
 use lib.ListN.{length, take, length-append, length-map}
 use lib.Seq.{take_at, drop_at}
@@ -48,20 +48,20 @@ not_absent v b f e =
     false≢true (sym (ap finite w) ∙ f)
 
 option_back : (o : Option Float) → Given Binary64 o → Given Finite o → float_given (optional_float o) ≡ o
-option_back none b f = refl
-option_back (some v) b f = rw (ne_eqb (to_word v) absent (not_absent v b f), of_bits-to_bits binary64 v b)
+option_back None b f = refl
+option_back (Some v) b f = rw (ne_eqb (to_word v) absent (not_absent v b f), of_bits-to_bits binary64 v b)
 
 option_word : (o : Option Float) → Given Binary64 o → optional_float o < word_size
-option_word none b = omega arith
-option_word (some v) b = to_bits-lt binary64 v b
+option_word None b = omega arith
+option_word (Some v) b = to_bits-lt binary64 v b
 
 count_back_lem : (limit : ℕ) (o : Option ℕ) → Given (Count limit) o → count_given (or_else o 0) ≡ o
-count_back_lem limit none h = refl
-count_back_lem limit (some k) h = rw (ne_eqb k 0 (λ e. omega (arith, h.0)))
+count_back_lem limit None h = refl
+count_back_lem limit (Some k) h = rw (ne_eqb k 0 (λ e. omega (arith, h.0)))
 
 count_most : (limit : ℕ) (o : Option ℕ) → Given (Count limit) o → or_else o 0 ≤ limit
-count_most limit none h = omega arith
-count_most limit (some k) h = h.1
+count_most limit None h = omega arith
+count_most limit (Some k) h = h.1
 
 -- ---- word 0
 
@@ -89,8 +89,8 @@ central_below Scheme.forward = omega arith
 central_below Scheme.central = omega arith
 
 box_below : (o : Option Bounds) → box_flag o < 2
-box_below none = omega arith
-box_below (some b) = omega arith
+box_below None = omega arith
+box_below (Some b) = omega arith
 
 shape_is : (s : Setup) → Passed s → Shape (shape_word s) (dimension s) (or_else s.maxcor 0) (box_flag s.bounds) (central_bit s.scheme)
 shape_is s p =
@@ -112,8 +112,8 @@ floats_at_lem pre post xs k n a b f = rw (drop_at pre (map to_word xs ++ post) k
 bounds_back : (pre log : List ℕ) (o : Option Bounds) (w n : ℕ) → length pre ≡ 7 + n → n_in w ≡ n → w / 65536 % 2 ≡ box_flag o → Given (Sides n) o
     → Given BoxFloats o
     → bounds_in (pre ++ (bound_words o ++ log)) w ≡ o
-bounds_back pre log none w n a r e h f = rw e
-bounds_back pre log (some b) w n a r e h f =
+bounds_back pre log None w n a r e h f = rw e
+bounds_back pre log (Some b) w n a r e h f =
     let lower = map to_word b.lower in
     let upper = map to_word b.upper in
     let split = append_assoc lower upper log in
@@ -123,7 +123,7 @@ bounds_back pre log (some b) w n a r e h f =
     = rw (split, ← (append_assoc pre lower (upper ++ log)))
     (floats_at_lem (pre ++ lower) log b.upper (7 + 2 * n) n (omega (arith, length-append pre lower, length-map b.lower to_word, h.lower.size))
     h.upper.size f.1) in
-    rw (e, r) (ap₂ (λ (x y : List Float). some (record { lower = x; upper = y })) low high)
+    rw (e, r) (ap₂ (λ (x y : List Float). Some (record { lower = x; upper = y })) low high)
 
 module _ (s : Setup) (log : List ℕ) (a : Accepted s) (f : SetupFloats s) where
   pub setup_back : setup_in (setup_words s ++ log) ≡ s
@@ -165,8 +165,8 @@ module _ (s : Setup) (log : List ℕ) (a : Accepted s) (f : SetupFloats s) where
 -- ---- its words: how many, and each below 2 ^ 64
 
 bounds_length : (n : ℕ) (o : Option Bounds) → Given (Sides n) o → length (bound_words o) ≡ box_flag o * (2 * n)
-bounds_length n none h = omega arith
-bounds_length n (some b) h =
+bounds_length n None h = omega arith
+bounds_length n (Some b) h =
     omega (
       arith,
       length-append (map to_word b.lower) (map to_word b.upper),
@@ -177,16 +177,16 @@ bounds_length n (some b) h =
     )
 
 length_in : (o : Option Bounds) (w n : ℕ) → n_in w ≡ n → w / 65536 % 2 ≡ box_flag o → setup_length w ≡ 7 + n + box_flag o * (2 * n)
-length_in none w n r e = rw (e, r) (omega arith)
-length_in (some b) w n r e = rw (e, r) (omega arith)
+length_in None w n r e = rw (e, r) (omega arith)
+length_in (Some b) w n r e = rw (e, r) (omega arith)
 
 box_most : (o : Option Bounds) (n : ℕ) → box_flag o * (2 * n) ≤ 2 * n
-box_most none n = omega arith
-box_most (some b) n = omega arith
+box_most None n = omega arith
+box_most (Some b) n = omega arith
 
 bounds_words : (o : Option Bounds) → Given BoxFloats o → Words (bound_words o)
-bounds_words none f = tt
-bounds_words (some b) f = each_join _ (map to_word b.lower) (map to_word b.upper) (floats_words b.lower f.0) (floats_words b.upper f.1)
+bounds_words None f = tt
+bounds_words (Some b) f = each_join _ (map to_word b.lower) (map to_word b.upper) (floats_words b.lower f.0) (floats_words b.upper f.1)
 
 module _ (s : Setup) (a : Accepted s) where
   pub shape_small : shape_word s < 262144

@@ -4,7 +4,7 @@ use native.Mathlib.Omega.{arith}
 use mathlib.Core.Path.{◌≡◌, refl, sym, ap, ◌∙◌, subst}
 use mathlib.Core.Bool.{Bool, true, false, not, ◌&&◌, ◌||◌, false≢true}
 use mathlib.Core.List.{List, [], ◌∷◌, map}
-use mathlib.Core.Option.{Option, none, some}
+use Rattle.std.specs.Prelude.{Option, None, Some}
 use lib.Dec.{eqb, lit≤}
 use lib.ListN.{length, set, length-append, length-drop, length-set, length-map}
 use lib.Ieee as Ieee
@@ -33,10 +33,10 @@ use Rattle.definition.proofs.Counts.{terms_stay}
 
 -- of a search that goes on
 Few : Option Search → Type 0
-Few none = Unit {0}
-Few (some r) = r.trials ≤ search_trials
+Few None = Unit {0}
+Few (Some r) = r.trials ≤ search_trials
 
-few_at : (o : Option Search) (r : Search) → Few o → o ≡ some r → r.trials ≤ search_trials
+few_at : (o : Option Search) (r : Search) → Few o → o ≡ Some r → r.trials ≤ search_trials
 unfolding Few
 few_at o r h e = subst Few e h
 
@@ -130,7 +130,7 @@ module _ (s : Setup) (one : 1 ≤ maxcor_of s) where
       let z = h.1 in
       (h.0, record { held_words = z.held_words; trial_words = z.trial_words; direction_words = z.direction_words; pair_words = p; few_trials = z.few_trials })
 
-  aimed : (m : Machine) (o : Option Search) (r : Search) → Few o → o ≡ some r → Keeps m → Keeps (aiming r m)
+  aimed : (m : Machine) (o : Option Search) (r : Search) → Few o → o ≡ Some r → Keeps m → Keeps (aiming r m)
   unfolding trial_point
   aimed m o r f e h = regarded m _ r (n_words m _ h, h.1.trial_words.1) (few_at o r f e) h
 
@@ -175,7 +175,7 @@ module _ (s : Setup) (one : 1 ≤ maxcor_of s) where
       held (trying t m) (state m.held.x v m.held.g) h.1.held_words (regarded m t m.search h.1.trial_words h.1.few_trials h)
   kept_value Place.trial v m h = regarded m (state m.trial.x v m.trial.g) m.search h.1.trial_words h.1.few_trials h
 
-  kept : {b : Machine} {r : Reply} {c : Bool} {m : Machine} → Turn b r c m → check_due b r ≡ none → Keeps b → Keeps m
+  kept : {b : Machine} {r : Reply} {c : Bool} {m : Machine} → Turn b r c m → check_due b r ≡ None → Keeps b → Keeps m
   kept {b} (Turn.value w v e q) d h = kept_value w (to_float v) b h
   kept {b} (Turn.nonfinite w v e q) d h = kept_value w (to_float v) b h
   kept {b} (Turn.probe w i side v e q) d h = probed_leads gathers w i (probes_at b.terms b.trial.x i) side (to_float v) b h

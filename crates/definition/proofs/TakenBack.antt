@@ -3,7 +3,7 @@ use Prim.Native.Nat.{ℕ, suc, ◌+◌, ◌≤◌}
 use native.Mathlib.Omega.{arith}
 use mathlib.Core.Path.{◌≡◌, refl, sym, ap, ◌∙◌, subst}
 use mathlib.Core.List.{List, [], ◌∷◌, ◌++◌, map, reverse, reverse_aux, reverse_aux-eq, reverse-reverse}
-use mathlib.Core.Option.{none, some}
+use Rattle.std.specs.Prelude.{None, Some}
 use lib.ListN.{length, take, drop, length-reverse, length-reverse_aux, take-append-drop}
 use lib.Seq.{drop_at}
 use borrow.Author.Tests.{le-ltb}
@@ -26,9 +26,9 @@ abbrev with_replies : List Reply → Book → Book
 with_replies qs b = book b.setup (reverse_aux qs b.replies)
 
 -- an accepted reply
-by_done : (c : Check) (a : Answer) → refused_by c a ≡ Answer.done → c ≡ none
-by_done none a e = refl
-by_done (some r) a e = cc
+by_done : (c : Check) (a : Answer) → refused_by c a ≡ Answer.done → c ≡ None
+by_done None a e = refl
+by_done (Some r) a e = cc
 
 module _ (z : Lengths) where
   abbrev Room : Book → Type 0
@@ -48,7 +48,7 @@ module _ (z : Lengths) where
       let p = replied b q (ap (λ (g : History). history_answer z g (Call.reply q)) (sym same) ∙ (cc)) in
       all_replied qs (with_reply q b) (history_step z h (Call.reply q)) (ap (λ (g : History). history_step z g (Call.reply q)) same ∙ p.0) p.1 (cc)
 
-  back_passes : (b : Book) (j : ℕ) → Room b → j ≤ length b.replies → (call_row z (History.fit b) (Call.take_back j)).check ≡ none
+  back_passes : (b : Book) (j : ℕ) → Room b → j ≤ length b.replies → (call_row z (History.fit b) (Call.take_back j)).check ≡ None
   back_passes b j room h = rw (le-ltb (length b.replies) j h, le-ltb z.log (length (log_of b)) room)
 
 drop_reversed : (qs rs : List Reply) → drop (length qs) (reverse_aux qs rs) ≡ rs
@@ -63,8 +63,8 @@ taken_back z History.empty (q ∷ qs) e = cc
 taken_back z (History.fit b) [] e = go (call_row z (History.fit b) (Call.take_back 0)).check
   where
     go : (c : Check) → left_by c (History.fit b) (History.fit (struck 0 b)) ≡ History.fit b
-    go none = refl
-    go (some r) = refl
+    go None = refl
+    go (Some r) = refl
 taken_back z (History.fit b) (q ∷ qs) e =
     let h = History.fit b in
     let j = suc (length qs) in
@@ -92,7 +92,7 @@ again_step z h c k cs g step answer next = record {
 }
 
 module _ (z : Lengths) where
-  reply_again : (b : Book) (q : Reply) → Due b.setup (q ∷ b.replies) → Room z (with_reply q b) → check_reply z b q ≡ none
+  reply_again : (b : Book) (q : Reply) → Due b.setup (q ∷ b.replies) → Room z (with_reply q b) → check_reply z b q ≡ None
   reply_again b q d room = rw (d.0, le-ltb z.log (length (log_of b) + length (entry_words q)) (omega (arith, log_more q b.replies)))
 
   all_again : (qs : List Reply) (b : Book) → Due b.setup (with_replies qs b).replies → Room z (with_replies qs b)

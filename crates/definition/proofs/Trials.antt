@@ -5,7 +5,7 @@ use native.Mathlib.Omega.{arith}
 use mathlib.Core.Path.{◌≡◌, refl, subst}
 use mathlib.Core.Bool.{Bool, true, false, not, cond, ◌&&◌, ◌||◌}
 use mathlib.Core.List.{List}
-use mathlib.Core.Option.{Option, none, some}
+use Rattle.std.specs.Prelude.{Option, None, Some}
 use mathlib.Core.Logic.{inl, inr}
 use lib.IntN.{pos}
 use lib.Dec.{T, leb}
@@ -89,21 +89,21 @@ limit_low (suc n) b x d =
     (λ e. le_trans t l.amax step_limit (both_hold (finite t) (le t l.amax) e).1 h) (λ _. h)
 
 -- what is handed on passed its test
-passed : {A : Type 0} (t : Bool) (o : Option A) {a : A} → cond t o none ≡ some a → T t × (o ≡ some a)
+passed : {A : Type 0} (t : Bool) (o : Option A) {a : A} → cond t o None ≡ Some a → T t × (o ≡ Some a)
 passed true o e = (tt, e)
 passed false o e = let z : ◌≡◌ {A = ℕ} 0 1 = cc in absurd (omega arith)
 
-same_given : {A : Type 0} (P : A → Type 0) (a b : A) → some a ≡ some b → P a → P b
+same_given : {A : Type 0} (P : A → Type 0) (a b : A) → Some a ≡ Some b → P a → P b
 same_given P a b e h = let q : a ≡ b = cc in rw q at h
 
 -- a search that begins
-pub begun_running : (n : ℕ) (b : Bounds) (x g d : List Float) (r : Search) → begin_search n b x g d ≡ some r → EachFinite n d × Running r
+pub begun_running : (n : ℕ) (b : Bounds) (x g d : List Float) (r : Search) → begin_search n b x g d ≡ Some r → EachFinite n d × Running r
 unfolding begin_search lt
 begun_running n b x g d r e =
     let slope = dot n g d in
     let l = limit_of n b x d in
     let p = passed (finite slope && lt slope zero64) (with_limit slope l) e in
-    let q = passed (finite l.amax && lt zero64 l.amax) (some (first_search slope l)) p.1 in
+    let q = passed (finite l.amax && lt zero64 l.amax) (Some (first_search slope l)) p.1 in
     let whole = and_l (finite slope) (lt slope zero64) p.0 in
     let down = and_r (finite slope) (lt slope zero64) p.0 in
     let up = and_r (finite l.amax) (lt zero64 l.amax) q.0 in
@@ -127,10 +127,10 @@ module _ (r : Search) (f v slope : Float) (h : Running r) where
   low_step = by_test Step (narrows r f v slope) (λ _. h.low) (λ _. h.alpha)
 
   following_step : (low : Float) (high : Option Float) → Step low → Given Step high → Step (following r low high)
-  following_step low none p q = min_step (times r.alpha two64) r.amax (twice_unsigned r.alpha h.alpha) h.amax
-  following_step low (some high) p q = half_step (plus low high) (sum_step low high p q)
+  following_step low None p q = min_step (times r.alpha two64) r.amax (twice_unsigned r.alpha h.alpha) h.amax
+  following_step low (Some high) p q = half_step (plus low high) (sum_step low high p q)
 
-  pub next_running : (q : Search) → after_trial r f v slope ≡ some q → Running q
+  pub next_running : (q : Search) → after_trial r f v slope ≡ Some q → Running q
   unfolding after_trial
   next_running q e =
       let low = low_after r f v slope in

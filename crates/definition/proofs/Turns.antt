@@ -3,7 +3,7 @@ use Prim.Native.Nat.{ℕ, zero, suc, ◌+◌, ◌-◌}
 use mathlib.Core.Path.{◌≡◌, refl, sym, ap, ◌∙◌}
 use mathlib.Core.Bool.{Bool, true, false, cond, ◌&&◌, true≢false}
 use mathlib.Core.List.{List, map}
-use mathlib.Core.Option.{Option, none, some}
+use Rattle.std.specs.Prelude.{Option, None, Some}
 use lib.Dec.{eqb}
 use lib.Ieee.{Float}
 use lib.Ieee.Scale.{finite}
@@ -161,11 +161,11 @@ trial_slope m = dot m.terms.n m.trial.g m.direction
 pub record Descends (S Q : Machine → Type 0) : Type 0 where
   pub bare : (m : Machine) → S m → S (with_compact no_pairs m)
   pub headed :
-      (m : Machine) (e : Ends) → S m → ends_of m.terms m.compact m.held ≡ some e
+      (m : Machine) (e : Ends) → S m → ends_of m.terms m.compact m.held ≡ Some e
       → S (heading (difference m.terms.n (chosen_end m.terms.n m.held e) m.held.x) m)
   pub begun :
       (m : Machine) (r : Search) → S m
-      → begin_search m.terms.n m.terms.bounds m.held.x m.held.g m.direction ≡ some r → S (aiming r m)
+      → begin_search m.terms.n m.terms.bounds m.held.x m.held.g m.direction ≡ Some r → S (aiming r m)
   pub failed : (m : Machine) → S m → Q (ending Termination.line_search_failed m)
   pub spent : (m : Machine) → S m → value_left m.limits m.counters ≡ false → Q (ending Termination.max_evaluations m)
   pub asked : (m : Machine) → S m → value_left m.limits m.counters ≡ true → Q (asking (Phase.value Place.trial) m)
@@ -175,12 +175,12 @@ module _ {S Q : Machine → Type 0} (k : Descends S Q) where
   unfolding ask_value
   trial_leads m h = by_test Q (value_left m.limits m.counters) (k.asked m h) (k.spent m h)
 
-  search_leads : (m : Machine) (o : Option Search) → S m → ((r : Search) → o ≡ some r → S (aiming r m)) → Q (by_verdict m (or_failed o))
+  search_leads : (m : Machine) (o : Option Search) → S m → ((r : Search) → o ≡ Some r → S (aiming r m)) → Q (by_verdict m (or_failed o))
   unfolding try_step
-  search_leads m none h next = k.failed m h
-  search_leads m (some r) h next = trial_leads (aiming r m) (next r refl)
+  search_leads m None h next = k.failed m h
+  search_leads m (Some r) h next = trial_leads (aiming r m) (next r refl)
 
-  towards_leads : (e : Ends) (m : Machine) → S m → ends_of m.terms m.compact m.held ≡ some e → Q (towards e m)
+  towards_leads : (e : Ends) (m : Machine) → S m → ends_of m.terms m.compact m.held ≡ Some e → Q (towards e m)
   unfolding towards search_along
   towards_leads e m h q =
       let m' = heading (difference m.terms.n (chosen_end m.terms.n m.held e) m.held.x) m in
@@ -188,15 +188,15 @@ module _ {S Q : Machine → Type 0} (k : Descends S Q) where
       search_leads m' (begin_search m.terms.n m.terms.bounds m.held.x m.held.g m'.direction) h' (λ r. k.begun m' r h')
 
   model_leads : (m : Machine) (o : Option Ends) → S m → ends_of m.terms m.compact m.held ≡ o → Q (by_model m o)
-  model_leads m none h q = k.failed m h
-  model_leads m (some e) h q = towards_leads e m h q
+  model_leads m None h q = k.failed m h
+  model_leads m (Some e) h q = towards_leads e m h q
 
   pairs_lead : (m : Machine) (o : Option Ends) → S m → ends_of m.terms m.compact m.held ≡ o → Q (or_without_pairs m o)
   unfolding without_pairs
-  pairs_lead m none h q =
+  pairs_lead m None h q =
       by_test Q (eqb (count m.compact) 0) (λ _. k.failed m h)
       (λ _. model_leads (with_compact no_pairs m) (ends_of m.terms no_pairs m.held) (k.bare m h) refl)
-  pairs_lead m (some e) h q = towards_leads e m h q
+  pairs_lead m (Some e) h q = towards_leads e m h q
 
   pub descend_leads : (m : Machine) → S m → Q (descend m)
   unfolding descend
@@ -215,7 +215,7 @@ pub record Gathers (G : Place → Machine → Type 0) (S : Machine → Type 0) (
   pub tried : (m : Machine) → G Place.trial m → gradient_finite m ≡ true → S (gathered m)
   pub again :
       (m : Machine) (r : Search) → G Place.trial m → gradient_finite m ≡ true
-      → after_trial m.search m.held.f m.trial.f (trial_slope m) ≡ some r → S (aiming r (gathered m))
+      → after_trial m.search m.held.f m.trial.f (trial_slope m) ≡ Some r → S (aiming r (gathered m))
   pub moved :
       (m : Machine) → G Place.trial m → gradient_finite m ≡ true
       → accepts m.search m.held.f m.trial.f (trial_slope m) ≡ true → Q true (move (learn (gathered m)))

@@ -3,7 +3,7 @@ use Prim.Native.Nat.{ℕ, ◌<◌}
 use mathlib.Core.Path.{◌≡◌, refl, sym, ap, ◌∙◌}
 use mathlib.Core.Bool.{Bool, true, false, not, cond, ◌&&◌, false≢true, true≢false}
 use mathlib.Core.List.{List, [], ◌∷◌}
-use mathlib.Core.Option.{some}
+use Rattle.std.specs.Prelude.{Some}
 use lib.Dec.{T}
 use lib.Ieee.{le}
 use lib.Ieee.Scale.{finite}
@@ -40,7 +40,7 @@ first_asked (Phase.ended t) r e d = absurd (false≢true (sym (none_suits r) ∙
 
 -- the value held after the replies is finite and not above the first one, if that is finite
 abbrev FromFirst : Setup → List Reply → Type 0
-FromFirst s rs = (w : ℕ) × (first_value rs ≡ some w) × (T (finite (to_float w)) → T (finite (run s rs).held.f) × T (le (run s rs).held.f (to_float w)))
+FromFirst s rs = (w : ℕ) × (first_value rs ≡ Some w) × (T (finite (to_float w)) → T (finite (run s rs).held.f) × T (le (run s rs).held.f (to_float w)))
 
 first_itself : (s : Setup) (r : Reply) → Reported s (r ∷ []) → FromFirst s (r ∷ [])
 unfolding run begin first_value on_value
@@ -72,12 +72,12 @@ from_first s (r ∷ rs) a d e = go (unreported (run s rs).phase) refl (from_firs
           λ f. (v.0.whole, le_trans (run s (r ∷ rs)).held.f (run s rs).held.f (to_float w) v.1 (k.2 f).1),
         )
     go true q h =
-        let none = start_asked_first s rs d.1 (first_asked (run s rs).phase r q (due_taken (run s rs) r d.0)) in
-        let k : Reported s (r ∷ rs) → FromFirst s (r ∷ rs) = rw none (first_itself s r) in
+        let None = start_asked_first s rs d.1 (first_asked (run s rs).phase r q (due_taken (run s rs) r d.0)) in
+        let k : Reported s (r ∷ rs) → FromFirst s (r ∷ rs) = rw None (first_itself s r) in
         k e
 
 pub not_above_first :
-    (s : Setup) (rs : List Reply) → Accepted s → Due s rs → Reported s rs → (w : ℕ) → first_value rs ≡ some w → T (finite (to_float w))
+    (s : Setup) (rs : List Reply) → Accepted s → Due s rs → Reported s rs → (w : ℕ) → first_value rs ≡ Some w → T (finite (to_float w))
     → T (finite (run s rs).held.f) × T (le (run s rs).held.f (to_float w))
 not_above_first s rs a d e w q f =
     let k = from_first s rs a d e in

@@ -2,7 +2,7 @@
 -- `oldest` and `padded` are storage, here because document 01 has it: m places for the pairs "with a number for the oldest", and the middle
 -- matrix "an array of 32 rows of 32". No number of the fit rests on them.
 use Rattle.std.specs.Prelude.{ℕ, ◌+◌, ◌-◌, ◌*◌, Bool, cond, ◌&&◌, List, [], ◌∷◌, ◌++◌, eqb, ltb, length, get_or, drop, replicate, Float}
-use Rattle.std.proofs.Math.Option.{Option, some}
+use Rattle.std.specs.Prelude.{Option, Some}
 use Rattle.std.specs.Float.Ieee as Ieee
 use Rattle.std.specs.Float.Ieee.Scale.{finite}
 use Rattle.definition.specs.Number.{minus, times, over, zero64, one64, epsilon}
@@ -106,7 +106,7 @@ right_side n c v = padded zero64 (2 * count c) (λ k. column_dot n c k v)
 
 -- the weights of the columns; where there is no pair there is none to weigh
 unfoldable pub weights : ℕ → Compact → List Float → Option (List Float)
-weights n c v = cond (eqb (count c) 0) (some zero_row) (solve (2 * count c) (block n c) (right_side n c v))
+weights n c v = cond (eqb (count c) 0) (Some zero_row) (solve (2 * count c) (block n c) (right_side n c v))
 
 -- word i of theta v, less each column with its weight
 unfoldable pub less_word : Compact → List Float → List Float → ℕ → Float

@@ -1,7 +1,7 @@
 -- The steps of a fit, from question to question. The start counts as the first trial, held from the beginning.
 -- Each function from machine to machine is one function of the code.
 use Rattle.std.specs.Prelude.{ℕ, zero, suc, ◌+◌, ◌-◌, Bool, false, cond, List, [], ◌∷◌, map, eqb, set, Float}
-use Rattle.std.proofs.Math.Option.{Option, none, some}
+use Rattle.std.specs.Prelude.{Option, None, Some}
 use Rattle.std.specs.Float.Ieee as Ieee
 use Rattle.std.specs.Float.Ieee.Scale.{finite}
 use Rattle.definition.specs.Number.{minus, times, abs, min, max, to_float, zero64, one64}
@@ -84,7 +84,7 @@ pub record Ends : Type 0 where
   pub target : List Float
 
 abbrev pub ends_from : Terms → Compact → State → List Float → Option Ends
-ends_from t c h p = primal_minimize t.n t.bounds c h.x h.g p and_then λ q. some (record { cauchy = p; target = q })
+ends_from t c h p = primal_minimize t.n t.bounds c h.x h.g p and_then λ q. Some (record { cauchy = p; target = q })
 
 unfoldable pub ends_of : Terms → Compact → State → Option Ends
 ends_of t c h = generalized_cauchy t.n t.bounds c h.x h.g and_then ends_from t c h
@@ -97,16 +97,16 @@ unfoldable pub towards : Ends → Machine → Machine
 towards e m = search_along (heading (difference m.terms.n (chosen_end m.terms.n m.held e) m.held.x) m)
 
 abbrev pub by_model : Machine → Option Ends → Machine
-by_model m none = ending Termination.line_search_failed m
-by_model m (some e) = towards e m
+by_model m None = ending Termination.line_search_failed m
+by_model m (Some e) = towards e m
 
 -- a model that failed with pairs drops them for good and is tried once more
 unfoldable pub without_pairs : Machine → Machine
 without_pairs m = by_model (with_compact no_pairs m) (ends_of m.terms no_pairs m.held)
 
 abbrev pub or_without_pairs : Machine → Option Ends → Machine
-or_without_pairs m (some e) = towards e m
-or_without_pairs m none = cond (eqb (count m.compact) 0) (ending Termination.line_search_failed m) (without_pairs m)
+or_without_pairs m (Some e) = towards e m
+or_without_pairs m None = cond (eqb (count m.compact) 0) (ending Termination.line_search_failed m) (without_pairs m)
 
 -- the direction and the first trial along it
 unfoldable pub descend : Machine → Machine
@@ -213,7 +213,7 @@ abbrev pub answer : Machine → Reply → Machine
 answer m r = answer_in m.phase m r
 
 abbrev pub no_search : Search
-no_search = record { alpha = zero64; low = zero64; high = none; slope0 = zero64; amax = zero64; face = false; trials = 0 }
+no_search = record { alpha = zero64; low = zero64; high = None; slope0 = zero64; amax = zero64; face = false; trials = 0 }
 
 -- The first question is the value at the clipped start. No report shows the value 0 that stands until it is replied.
 unfoldable pub begin : Setup → Machine

@@ -1,6 +1,6 @@
 -- The generalized Cauchy point along the projected path, and the minimum over its free coordinates.
 use Rattle.std.specs.Prelude.{ℕ, zero, suc, ◌+◌, ◌-◌, ◌*◌, Bool, true, false, not, cond, ◌&&◌, ◌||◌, List, [], ◌∷◌, eqb, length, get_or, set, Float}
-use Rattle.std.proofs.Math.Option.{Option, none, some}
+use Rattle.std.specs.Prelude.{Option, None, Some}
 use Rattle.std.specs.Float.Ieee as Ieee
 use Rattle.std.specs.Float.{nan}
 use Rattle.std.specs.Float.Ieee.{is_nan}
@@ -105,14 +105,14 @@ passed n b x bs t p = reached t (stop_all (length bs - p.event) b x bs t (travel
 -- with a slope below zero and a curvature above: a minimum inside the segment, or on to its end
 unfoldable pub along : ℕ → Bounds → List Float → List Break → Path → Float → Float → Segment
 along n b x bs p next minimizer =
-    cond (not (finite minimizer)) (ended none)
+    cond (not (finite minimizer)) (ended None)
     (cond (Ieee.lt minimizer (minus next p.previous))
     (ended (point_on_path n b x (travelled n minimizer p)))
     (onward (passed n b x bs next p)))
 
 unfoldable pub by_slope : ℕ → Bounds → List Float → List Break → Path → Float → Float → Segment
 by_slope n b x bs p slope curvature =
-    cond (not (finite slope && finite curvature && Ieee.lt zero64 curvature)) (ended none)
+    cond (not (finite slope && finite curvature && Ieee.lt zero64 curvature)) (ended None)
     (cond (Ieee.le zero64 slope) (ended (point_on_path n b x p))
     (along n b x bs p (get_or bs p.event no_break).time (over (Ieee.neg slope) curvature)))
 
@@ -124,13 +124,13 @@ unfoldable pub segment : ℕ → Bounds → Compact → List Float → List Floa
 segment n b c x g bs p =
     let d = p.direction in
     let next = product n c d and_then λ bd. product n c p.displacement and_then λ bz.
-    some (by_slope n b x bs p (plus (dot n g d) (dot n bz d)) (dot n d bd)) in
-    cond (still n d) (ended (point_on_path n b x p)) (or_else next (ended none))
+    Some (by_slope n b x bs p (plus (dot n g d) (dot n bz d)) (dot n d bd)) in
+    cond (still n d) (ended (point_on_path n b x p)) (or_else next (ended None))
 
 -- Each segment that leads on passes a break, so `left` segments more than the breaks there are always end the path.
 unfoldable pub walk : ℕ → ℕ → Bounds → Compact → List Float → List Float → List Break → Segment → Option (List Float)
 walk zero n b c x g bs (ended r) = r
-walk zero n b c x g bs (onward p) = none
+walk zero n b c x g bs (onward p) = None
 walk (suc left) n b c x g bs (ended r) = r
 walk (suc left) n b c x g bs (onward p) = walk left n b c x g bs (segment n b c x g bs p)
 
@@ -173,11 +173,11 @@ correction c z i = sum (2 * count c) (λ k. times (column_word c k i) (word z k)
 unfoldable pub steps_with_pairs : ℕ → Bounds → List Float → Compact → List Float → Option (List Float)
 steps_with_pairs n b p c r =
     solve (2 * count c) (padded_rows c (reduced_entry n b p c)) (reduced_right n b p c r) and_then λ z.
-    some (free_steps n b p (λ i. over (Ieee.neg (plus (word r i) (over (correction c z i) c.theta))) c.theta))
+    Some (free_steps n b p (λ i. over (Ieee.neg (plus (word r i) (over (correction c z i) c.theta))) c.theta))
 
 abbrev pub steps_of : ℕ → Bounds → List Float → Compact → List Float → Option (List Float)
 steps_of n b p c r =
-    cond (eqb (count c) 0) (some (free_steps n b p (λ i. over (Ieee.neg (word r i)) c.theta))) (steps_with_pairs n b p c r)
+    cond (eqb (count c) 0) (Some (free_steps n b p (λ i. over (Ieee.neg (word r i)) c.theta))) (steps_with_pairs n b p c r)
 
 -- how far coordinate i lets the step go
 abbrev pub shortened : Bounds → List Float → List Float → ℕ → Float → Float
@@ -193,14 +193,14 @@ moved n b p steps alpha =
     finite_only n (tab n (λ i. cond (free b p i) (in_box b i (plus (word p i) (times alpha (word steps i)))) (word p i)))
 
 abbrev pub moved_by : ℕ → Bounds → List Float → List Float → Option (List Float)
-moved_by n b p steps = cond (all_finite n steps) (moved n b p steps (share_of n b p steps)) none
+moved_by n b p steps = cond (all_finite n steps) (moved n b p steps (share_of n b p steps)) None
 
 -- from the residual r, the model's gradient at p
 abbrev pub on_free : ℕ → Bounds → List Float → Compact → List Float → Option (List Float)
 on_free n b p c r = steps_of n b p c r and_then moved_by n b p
 
 abbrev pub residual : ℕ → Compact → List Float → List Float → List Float → Option (List Float)
-residual n c x g p = product n c (difference n p x) and_then λ bz. some (tab n (λ i. plus (word bz i) (word g i)))
+residual n c x g p = product n c (difference n p x) and_then λ bz. Some (tab n (λ i. plus (word bz i) (word g i)))
 
 unfoldable pub primal_minimize : ℕ → Bounds → Compact → List Float → List Float → List Float → Option (List Float)
-primal_minimize n b c x g p = cond (any_free n b p) (residual n c x g p and_then on_free n b p c) (some p)
+primal_minimize n b c x g p = cond (any_free n b p) (residual n c x g p and_then on_free n b p c) (Some p)

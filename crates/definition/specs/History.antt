@@ -1,7 +1,7 @@
 -- The history of a fit, document 01's book: fed the calls with their own arguments, and of area and log the lengths,
 -- it says what each call answers and what it leaves.
 use Rattle.std.specs.Prelude.{ℕ, ◌+◌, ◌*◌, Bool, false, ◌||◌, List, [], ◌∷◌, ◌++◌, eqb, ltb, length}
-use Rattle.std.proofs.Math.Option.{Option, none, some}
+use Rattle.std.specs.Prelude.{Option, None, Some}
 use Rattle.definition.specs.Problem.{Setup, Refusal, Check, refuse, when, ◌then◌, validate, dimension}
 use Rattle.definition.specs.Machine.{Reply, Question, Report, check_due, question as question_of, report_now as report_of, unreported}
 use Rattle.definition.specs.Log.{entry_words}
@@ -73,8 +73,8 @@ abbrev pub check_reply : Lengths → Book → Reply → Check
 check_reply z b r = check_due (run_of b) r then when (ltb z.log (length (log_of b) + length (entry_words r))) (refuse 12 0 0)
 
 abbrev pub check_question : Book → ℕ → Option Question → Check
-check_question b room none = none
-check_question b room (some q) = output_short room (dimension b.setup)
+check_question b room None = None
+check_question b room (Some q) = output_short room (dimension b.setup)
 
 -- ---- each call: the check, and where it passes what is left and what is answered
 
@@ -99,36 +99,36 @@ restored_answer (Reading.refused_at_entry r) = Answer.refused r
 
 abbrev pub call_row : Lengths → History → Call → Row
 call_row z h (Call.start s) = checked (validate s then check_area z s) (History.fit (opened_book s)) Answer.done
-call_row z h (Call.restore bs) = checked none (restored h (read_record z bs)) (restored_answer (read_record z bs))
+call_row z h (Call.restore bs) = checked None (restored h (read_record z bs)) (restored_answer (read_record z bs))
 call_row z History.empty (Call.reply r) = checked (refuse 13 0 0) History.empty Answer.done
 call_row z (History.fit b) (Call.reply r) = checked (check_reply z b r) (History.fit (with_reply r b)) Answer.done
 call_row z History.empty (Call.take_back j) = checked (when (ltb 0 j) (refuse 16 0 0)) History.empty Answer.done
 call_row z (History.fit b) (Call.take_back j) =
     checked (when (ltb (length b.replies) j) (refuse 16 0 0) then log_short z b) (History.fit (struck j b)) Answer.done
-call_row z History.empty (Call.question room) = checked none History.empty (Answer.asked none)
+call_row z History.empty (Call.question room) = checked None History.empty (Answer.asked None)
 call_row z (History.fit b) (Call.question room) =
     checked (check_question b room (question_of (run_of b))) (History.fit b) (Answer.asked (question_of (run_of b)))
 call_row z History.empty (Call.report room) = checked (refuse 15 0 0) History.empty Answer.done
 call_row z (History.fit b) (Call.report room) =
     checked (when (unreported (run_of b).phase) (refuse 15 0 0) then output_short room (dimension b.setup))
     (History.fit b) (Answer.reported (report_of (run_of b)))
-call_row z History.empty Call.replies = checked none History.empty (Answer.counted 0)
-call_row z (History.fit b) Call.replies = checked none (History.fit b) (Answer.counted (length b.replies))
-call_row z History.empty (Call.entry k room) = checked none History.empty (Answer.entered [])
+call_row z History.empty Call.replies = checked None History.empty (Answer.counted 0)
+call_row z (History.fit b) Call.replies = checked None (History.fit b) (Answer.counted (length b.replies))
+call_row z History.empty (Call.entry k room) = checked None History.empty (Answer.entered [])
 call_row z (History.fit b) (Call.entry k room) =
     checked (log_short z b then output_short room (length (entry_at b.replies k))) (History.fit b) (Answer.entered (entry_at b.replies k))
-call_row z History.empty (Call.save room) = checked none History.empty (Answer.saved [])
+call_row z History.empty (Call.save room) = checked None History.empty (Answer.saved [])
 call_row z (History.fit b) (Call.save room) =
     checked (log_short z b then output_short room (8 * length (record_words b))) (History.fit b) (Answer.saved (record_bytes b))
 
 -- refused, the history stays
 abbrev pub left_by : Check → History → History → History
-left_by none h left = left
-left_by (some r) h left = h
+left_by None h left = left
+left_by (Some r) h left = h
 
 abbrev pub refused_by : Check → Answer → Answer
-refused_by none a = a
-refused_by (some r) a = Answer.refused r
+refused_by None a = a
+refused_by (Some r) a = Answer.refused r
 
 abbrev pub history_step : Lengths → History → Call → History
 history_step z h c = left_by (call_row z h c).check h (call_row z h c).left

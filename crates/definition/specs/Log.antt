@@ -1,6 +1,6 @@
 -- The log: one entry a reply, in words. Lists of replies stand newest first, the log's words oldest first.
 use Rattle.std.specs.Prelude.{ℕ, zero, suc, ◌+◌, ◌-◌, cond, List, [], ◌∷◌, ◌++◌, eqb, ltb, length, take, drop}
-use Rattle.std.proofs.Math.Option.{Option, none, some}
+use Rattle.std.specs.Prelude.{Option, None, Some}
 use Rattle.definition.specs.Problem.{Setup, Check}
 use Rattle.definition.specs.Machine.{Reply, Machine, reply_kind, brought_words, check_due}
 use Rattle.definition.specs.Driver.{answer, begin}
@@ -16,21 +16,21 @@ log_words (r ∷ rs) = log_words rs ++ entry_words r
 -- ---- reading an entry: none where it is unknown or cut
 
 abbrev pub value_entry : List ℕ → Option Reply
-value_entry [] = none
-value_entry (v ∷ ws) = some (Reply.value v)
+value_entry [] = None
+value_entry (v ∷ ws) = Some (Reply.value v)
 
 abbrev pub gradient_entry : ℕ → List ℕ → Option Reply
-gradient_entry n ws = cond (ltb (length ws) n) none (some (Reply.gradient (take n ws)))
+gradient_entry n ws = cond (ltb (length ws) n) None (Some (Reply.gradient (take n ws)))
 
 -- the entry of kind k, with ws behind it
 abbrev pub entry_of : ℕ → ℕ → List ℕ → Option Reply
 entry_of n k ws =
     cond (eqb k 1) (value_entry ws)
     (cond (eqb k 2) (gradient_entry n ws)
-    (cond (eqb k 3) (some Reply.not_supplied)
-    (cond (eqb k 4) (some Reply.go_on)
-    (cond (eqb k 5) (some Reply.stop)
-    (cond (eqb k 6) (some Reply.failure) none)))))
+    (cond (eqb k 3) (Some Reply.not_supplied)
+    (cond (eqb k 4) (Some Reply.go_on)
+    (cond (eqb k 5) (Some Reply.stop)
+    (cond (eqb k 6) (Some Reply.failure) None)))))
 
 -- ---- reading entries into a log of `room` words, one by one
 
@@ -43,14 +43,14 @@ pub data Entries : Type 0 where
   going : List ℕ → List Reply → Machine → Entries
 
 abbrev pub admit_due : ℕ → List ℕ → List Reply → Machine → Reply → Check → Entries
-admit_due room ws rs m r (some c) = Entries.refused_at 17
-admit_due room ws rs m r none =
+admit_due room ws rs m r (Some c) = Entries.refused_at 17
+admit_due room ws rs m r None =
     cond (ltb room (length (log_words rs) + length (entry_words r))) (Entries.refused_at 12)
     (Entries.going (drop (length (entry_words r) - 1) ws) (r ∷ rs) (answer m r))
 
 abbrev pub admit : ℕ → List ℕ → List Reply → Machine → Option Reply → Entries
-admit room ws rs m none = Entries.refused_at 17
-admit room ws rs m (some r) = admit_due room ws rs m r (check_due m r)
+admit room ws rs m None = Entries.refused_at 17
+admit room ws rs m (Some r) = admit_due room ws rs m r (check_due m r)
 
 abbrev pub next_entry : ℕ → List ℕ → List Reply → Machine → Entries
 next_entry room [] rs m = Entries.kept rs
@@ -77,9 +77,9 @@ entries_of s room ws = after_entries (length ws + 1) room (first_entries s ws)
 -- Document 01 at take back: "per entry kept, in altered logs only: 17 unknown, cut or not due".
 -- The replies of the entries read, if all of them could be: an entry that the words end before is cut.
 abbrev pub stayed : Entries → Option (List Reply)
-stayed (Entries.kept rs) = none
-stayed (Entries.refused_at c) = none
-stayed (Entries.going ws rs m) = some rs
+stayed (Entries.kept rs) = None
+stayed (Entries.refused_at c) = None
+stayed (Entries.going ws rs m) = Some rs
 
 -- the replies of the first `count` entries of ws, a log's own words; none where one of them is unknown, cut or not due
 abbrev pub entries_kept : Setup → ℕ → List ℕ → Option (List Reply)

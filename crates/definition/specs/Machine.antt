@@ -1,6 +1,6 @@
 -- The machine of a fit: its fields, what it asks, which replies are due, and its report.
 use Rattle.std.specs.Prelude.{ℕ, ◌<◌, Bool, true, false, not, cond, ◌&&◌, ◌||◌, List, [], ◌∷◌, eqb, length, get_or, set, Float}
-use Rattle.std.proofs.Math.Option.{Option, none, some}
+use Rattle.std.specs.Prelude.{Option, None, Some}
 use Rattle.definition.specs.Problem.{Terms, Limits, Check, refuse, when, ◌then◌}
 use Rattle.definition.specs.Compact.{Compact}
 use Rattle.definition.specs.Counters.{Termination, Counters, status_number}
@@ -189,11 +189,11 @@ probe_point (Probes.right_only r) side i x = set x i r
 probe_point (Probes.left_only l) side i x = set x i l
 
 abbrev pub question_in : Machine → Phase → Option Question
-question_in m (Phase.value w) = some (record { kind = 1; point = m.trial.x })
-question_in m (Phase.gradient w) = some (record { kind = 2; point = m.trial.x })
-question_in m (Phase.probe w i side) = some (record { kind = 1; point = probe_point (probes_at m.terms m.trial.x i) side i m.trial.x })
-question_in m Phase.notice = some (record { kind = 3; point = m.held.x })
-question_in m (Phase.ended t) = none
+question_in m (Phase.value w) = Some (record { kind = 1; point = m.trial.x })
+question_in m (Phase.gradient w) = Some (record { kind = 2; point = m.trial.x })
+question_in m (Phase.probe w i side) = Some (record { kind = 1; point = probe_point (probes_at m.terms m.trial.x i) side i m.trial.x })
+question_in m Phase.notice = Some (record { kind = 3; point = m.held.x })
+question_in m (Phase.ended t) = None
 
 abbrev pub question : Machine → Option Question
 question m = question_in m m.phase

@@ -1,6 +1,6 @@
 -- The words of the theorems on points and values, for an accepted setup and replies that were due. Lists of replies stand newest first.
 use Rattle.std.specs.Prelude.{ℕ, ◌<◌, ◌≡◌, Bool, true, false, not, cond, ◌&&◌, List, [], ◌∷◌, ◌++◌, T, eqb, set, Float}
-use Rattle.std.proofs.Math.Option.{Option, none, some}
+use Rattle.std.specs.Prelude.{Option, None, Some}
 use Rattle.std.specs.Float.Ieee.{lt, le}
 use Rattle.std.specs.Float.Ieee.Scale.{finite}
 use Rattle.definition.specs.Number.{to_float, zero64, step_limit}
@@ -38,8 +38,8 @@ takes_trial m r = at_notice (answer m r).phase && not (at_notice m.phase)
 
 -- the last trial taken
 unfoldable pub last_taken : Setup → List Reply → Option (List Float)
-last_taken s [] = none
-last_taken s (r ∷ rs) = cond (takes_trial (run s rs) r) (some (run s rs).trial.x) (last_taken s rs)
+last_taken s [] = None
+last_taken s (r ∷ rs) = cond (takes_trial (run s rs) r) (Some (run s rs).trial.x) (last_taken s rs)
 
 -- none of the replies `later`, given after `earlier`, is of this kind
 abbrev pub NoneOf : (Machine → Reply → Bool) → Setup → List Reply → List Reply → Type 0
@@ -53,7 +53,7 @@ pub record GivenAt (place : Place) (s : Setup) (rs : List Reply) (x : List Float
   pub earlier : List Reply
   pub split : rs ≡ later ++ Reply.value word ∷ earlier
   pub asked : (run s earlier).phase ≡ Phase.value place
-  pub point : question (run s earlier) ≡ some (record { kind = 1; point = x })
+  pub point : question (run s earlier) ≡ Some (record { kind = 1; point = x })
   pub value : f ≡ to_float word
 
 -- The trial whose value was given after `earlier` is the last one taken:
@@ -71,7 +71,7 @@ pub record TakenLast (s : Setup) (earlier later : List Reply) : Type 0 where
 pub record StartHeld (s : Setup) (rs : List Reply) (x : List Float) (f : Float) : Type 0 where
   pub point : x ≡ projected_start s
   pub given : GivenAt Place.start s rs x f
-  pub first : first_value rs ≡ some given.word
+  pub first : first_value rs ≡ Some given.word
 
 -- x is the last trial taken, and f the reply to that trial's own question
 pub record TrialHeld (taken : List Float) (s : Setup) (rs : List Reply) (x : List Float) (f : Float) : Type 0 where
@@ -81,8 +81,8 @@ pub record TrialHeld (taken : List Float) (s : Setup) (rs : List Reply) (x : Lis
 
 -- the one or the other, by the last trial taken
 abbrev pub OwnOf : Option (List Float) → Setup → List Reply → List Float → Float → Type 0
-OwnOf none = StartHeld
-OwnOf (some taken) = TrialHeld taken
+OwnOf None = StartHeld
+OwnOf (Some taken) = TrialHeld taken
 
 -- ---- the box
 

@@ -1,6 +1,6 @@
 -- The setup of a fit, its checks in their order, and the values that apply.
 use Rattle.std.specs.Prelude.{ℕ, ◌+◌, ◌*◌, Bool, true, false, not, ◌||◌, List, eqb, ltb, length, Float}
-use Rattle.std.proofs.Math.Option.{Option, none, some}
+use Rattle.std.specs.Prelude.{Option, None, Some}
 use Rattle.std.specs.Float.Ieee as Ieee
 use Rattle.std.specs.Float.Ieee.{is_nan}
 use Rattle.std.specs.Float.Ieee.Scale.{finite}
@@ -40,26 +40,26 @@ abbrev pub Check : Type 0
 Check = Option Refusal
 
 abbrev pub refuse : ℕ → ℕ → ℕ → Check
-refuse number a b = some (record { number = number; first = a; second = b })
+refuse number a b = Some (record { number = number; first = a; second = b })
 
 abbrev pub when : Bool → Check → Check
 when true c = c
-when false c = none
+when false c = None
 
 -- the first check that refuses
 infixr 20 ◌then◌
 abbrev pub ◌then◌ : Check → Check → Check
-some r then d = some r
-none then d = d
+Some r then d = Some r
+None then d = d
 
 -- the check of index 0, 1, .. n - 1
 abbrev pub each_index : ℕ → (ℕ → Check) → Check
-each_index n check = fold_to n (λ i c. c then check i) none
+each_index n check = fold_to n (λ i c. c then check i) None
 
 -- a check of a value that is given
 abbrev pub given : {A : Type 0} → (A → Check) → Option A → Check
-given check none = none
-given check (some a) = check a
+given check None = None
+given check (Some a) = check a
 
 -- ---- the rows of the table
 
@@ -130,12 +130,12 @@ validate s = check_problem s then check_common s then check_options s then check
 -- ---- what applies
 
 abbrev pub or_else : {A : Type 0} → Option A → A → A
-or_else (some a) d = a
-or_else none d = d
+or_else (Some a) d = a
+or_else None d = d
 
 abbrev pub either : {A : Type 0} → Option A → Option A → Option A
-either (some a) d = some a
-either none d = d
+either (Some a) d = Some a
+either None d = d
 
 abbrev pub dimension : Setup → ℕ
 dimension s = length s.x0

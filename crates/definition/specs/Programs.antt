@@ -1,6 +1,6 @@
 -- What the report program and the C entry answer to a record's bytes.
 use Rattle.std.specs.Prelude.{ℕ, ◌+◌, ◌*◌, ◌^◌, cond, List, [], map, eqb, ltb, length, Float}
-use Rattle.std.proofs.Math.Option.{Option, none, some}
+use Rattle.std.specs.Prelude.{Option, None, Some}
 use Rattle.definition.specs.Number.{to_word}
 use Rattle.definition.specs.Problem.{most_pairs, area_words}
 use Rattle.definition.specs.Machine.{Machine, Report, Question, report_now, question, unreported, status_of}
@@ -61,8 +61,8 @@ abbrev pub return_end : ℕ → Machine → Returned
 return_end room m = cond (eqb (status_of m.phase) 8) (record { number = 0; output = [] }) (return_point room 0 m.held.x)
 
 abbrev pub return_fit : ℕ → Machine → Option Question → Returned
-return_fit room m none = return_end room m
-return_fit room m (some q) = return_point room q.kind q.point
+return_fit room m None = return_end room m
+return_fit room m (Some q) = return_point room q.kind q.point
 
 abbrev pub return_of : ℕ → Reading → Returned
 return_of room (Reading.accepted b) = return_fit room (run_of b) (question (run_of b))

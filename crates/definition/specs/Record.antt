@@ -1,6 +1,6 @@
 -- The record: the setup's words, the log's, and a trailer of two sums, version and length; as bytes, little-endian.
 use Rattle.std.specs.Prelude.{ℕ, zero, suc, ◌+◌, ◌-◌, ◌*◌, ◌/◌, ◌%◌, ◌^◌, Bool, not, cond, ◌&&◌, ◌||◌, List, [], ◌∷◌, ◌++◌, map, eqb, ltb, leb, length, get_or, take, drop, Float}
-use Rattle.std.proofs.Math.Option.{Option, none, some}
+use Rattle.std.specs.Prelude.{Option, None, Some}
 use Rattle.definition.specs.Number.{to_float, to_word}
 use Rattle.definition.specs.Problem.{Setup, Bounds, Scheme, Refusal, Check, refuse, when, ◌then◌, validate, dimension, area_needed, or_else}
 use Rattle.definition.specs.Log.{Entries, entries_of}
@@ -12,20 +12,20 @@ abbrev pub absent : ℕ
 absent = 0x7FF8_0000_0000_0000
 
 abbrev pub optional_float : Option Float → ℕ
-optional_float none = absent
-optional_float (some v) = to_word v
+optional_float None = absent
+optional_float (Some v) = to_word v
 
 abbrev pub box_flag : Option Bounds → ℕ
-box_flag none = 0
-box_flag (some b) = 1
+box_flag None = 0
+box_flag (Some b) = 1
 
 abbrev pub scheme_flag : Scheme → ℕ
 scheme_flag Scheme.forward = 0
 scheme_flag Scheme.central = 2
 
 abbrev pub bound_words : Option Bounds → List ℕ
-bound_words none = []
-bound_words (some b) = map to_word b.lower ++ map to_word b.upper
+bound_words None = []
+bound_words (Some b) = map to_word b.lower ++ map to_word b.upper
 
 -- byte 0 n, byte 1 maxcor, byte 2 the flags
 abbrev pub shape_word : Setup → ℕ
@@ -45,10 +45,10 @@ setup_words s =
 -- ---- the setup from words
 
 abbrev pub float_given : ℕ → Option Float
-float_given w = cond (eqb w absent) none (some (to_float w))
+float_given w = cond (eqb w absent) None (Some (to_float w))
 
 abbrev pub count_given : ℕ → Option ℕ
-count_given k = cond (eqb k 0) none (some k)
+count_given k = cond (eqb k 0) None (Some k)
 
 -- the fields of word 0
 abbrev pub n_in : ℕ → ℕ
@@ -75,7 +75,7 @@ floats_at ws k n = map to_float (take n (drop k ws))
 
 abbrev pub bounds_in : List ℕ → ℕ → Option Bounds
 bounds_in ws w =
-    cond (has_box w) (some (record { lower = floats_at ws (7 + n_in w) (n_in w); upper = floats_at ws (7 + 2 * n_in w) (n_in w) })) none
+    cond (has_box w) (Some (record { lower = floats_at ws (7 + n_in w) (n_in w); upper = floats_at ws (7 + 2 * n_in w) (n_in w) })) None
 
 abbrev pub scheme_in : ℕ → Scheme
 scheme_in w = cond (is_central w) Scheme.central Scheme.forward
@@ -189,8 +189,8 @@ check_words z ws a b =
     then check_area z (setup_in ws)
 
 abbrev pub unless_refused : Check → Reading → Reading
-unless_refused none r = r
-unless_refused (some c) r = Reading.refused c
+unless_refused None r = r
+unless_refused (Some c) r = Reading.refused c
 
 -- the words before the trailer, with its two sums
 unfoldable pub read_words : Lengths → List ℕ → ℕ → ℕ → Reading

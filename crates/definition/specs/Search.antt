@@ -1,6 +1,6 @@
 -- The step search along a direction, as one record from question to question.
 use Rattle.std.specs.Prelude.{ℕ, ◌+◌, Bool, true, false, not, cond, ◌&&◌, ◌||◌, List, leb, Float}
-use Rattle.std.proofs.Math.Option.{Option, none, some}
+use Rattle.std.specs.Prelude.{Option, None, Some}
 use Rattle.std.specs.Float.Ieee as Ieee
 use Rattle.std.specs.Float.Ieee.Scale.{finite}
 use Rattle.definition.specs.Number.{plus, minus, times, over, abs, min, zero64, one64, two64, half64, infinity, c1, c2, step_limit}
@@ -41,14 +41,14 @@ limit_of n b x d = fold_to n (λ i l. limited (distance b x d i) l) (record { am
 
 abbrev pub first_search : Float → Limit → Search
 first_search slope0 l =
-    record { alpha = min one64 l.amax; low = zero64; high = none; slope0 = slope0; amax = l.amax; face = l.face; trials = 1 }
+    record { alpha = min one64 l.amax; low = zero64; high = None; slope0 = slope0; amax = l.amax; face = l.face; trials = 1 }
 
 abbrev pub with_limit : Float → Limit → Option Search
-with_limit slope0 l = cond (finite l.amax && Ieee.lt zero64 l.amax) (some (first_search slope0 l)) none
+with_limit slope0 l = cond (finite l.amax && Ieee.lt zero64 l.amax) (Some (first_search slope0 l)) None
 
 -- none: there is nothing to search
 unfoldable pub begin_search : ℕ → Bounds → List Float → List Float → List Float → Option Search
-begin_search n b x g d = let slope0 = dot n g d in cond (finite slope0 && Ieee.lt slope0 zero64) (with_limit slope0 (limit_of n b x d)) none
+begin_search n b x g d = let slope0 = dot n g d in cond (finite slope0 && Ieee.lt slope0 zero64) (with_limit slope0 (limit_of n b x d)) None
 
 unfoldable pub trial_point : ℕ → Bounds → List Float → List Float → Float → List Float
 trial_point n b x d alpha = tab n (λ i. in_box b i (plus (word x i) (times alpha (word d i))))
@@ -77,11 +77,11 @@ abbrev pub low_after : Search → Float → Float → Float → Float
 low_after s f v slope = cond (narrows s f v slope) s.low s.alpha
 
 abbrev pub high_after : Search → Float → Float → Float → Option Float
-high_after s f v slope = cond (narrows s f v slope) (some s.alpha) s.high
+high_after s f v slope = cond (narrows s f v slope) (Some s.alpha) s.high
 
 abbrev pub following : Search → Float → Option Float → Float
-following s low none = min (times s.alpha two64) s.amax
-following s low (some high) = times (plus low high) half64
+following s low None = min (times s.alpha two64) s.amax
+following s low (Some high) = times (plus low high) half64
 
 abbrev pub goes_on : Search → Float → Bool
 goes_on s next = not (Ieee.eq next s.alpha || Ieee.eq next zero64 || leb search_trials s.trials)
@@ -89,8 +89,8 @@ goes_on s next = not (Ieee.eq next s.alpha || Ieee.eq next zero64 || leb search_
 abbrev pub next_trial : Search → Float → Option Float → Float → Option Search
 next_trial s low high next =
     cond (goes_on s next)
-    (some (record { alpha = next; low = low; high = high; slope0 = s.slope0; amax = s.amax; face = s.face; trials = s.trials + 1 }))
-    none
+    (Some (record { alpha = next; low = low; high = high; slope0 = s.slope0; amax = s.amax; face = s.face; trials = s.trials + 1 }))
+    None
 
 -- the next trial, or none: the search has failed
 unfoldable pub after_trial : Search → Float → Float → Float → Option Search
@@ -106,8 +106,8 @@ pub data Verdict : Type 0 where
   failed : Verdict
 
 abbrev pub or_failed : Option Search → Verdict
-or_failed (some s) = Verdict.another s
-or_failed none = Verdict.failed
+or_failed (Some s) = Verdict.another s
+or_failed None = Verdict.failed
 
 abbrev pub judge : Search → Float → Float → Float → Verdict
 judge s f v slope = cond (accepts s f v slope) Verdict.accepted (or_failed (after_trial s f v slope))

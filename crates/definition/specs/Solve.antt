@@ -1,7 +1,7 @@
 -- `solve`: Gauss elimination, the pivot of each column being its entry of largest magnitude, and of several the last.
 -- It reads and writes the first n rows and columns only; what stands past them stays.
 use Rattle.std.specs.Prelude.{ℕ, ◌+◌, ◌-◌, Bool, not, cond, ◌&&◌, List, [], length, get_or, set, replicate, Float}
-use Rattle.std.proofs.Math.Option.{Option, none, some}
+use Rattle.std.specs.Prelude.{Option, None, Some}
 use Rattle.std.specs.Float.Ieee as Ieee
 use Rattle.std.specs.Float.Ieee.Scale.{finite}
 use Rattle.definition.specs.Number.{minus, times, over, abs, max, magnitude_le, zero64, pivot_threshold}
@@ -64,13 +64,13 @@ pivots scale d = finite d && not (Ieee.le (abs d) (times pivot_threshold scale))
 
 -- the column's pivot is in row k
 unfoldable pub on_column : ℕ → Float → ℕ → System → Option System
-on_column n scale k s = cond (pivots scale (entry s.rows k k)) (some (eliminated n k s)) none
+on_column n scale k s = cond (pivots scale (entry s.rows k k)) (Some (eliminated n k s)) None
 
 abbrev pub column : ℕ → Float → ℕ → Option System → Option System
 column n scale k o = o and_then λ s. on_column n scale k (swapped s k (pivot_of n s.rows k))
 
 unfoldable pub triangular : ℕ → Float → System → Option System
-triangular n scale s = fold_to n (column n scale) (some s)
+triangular n scale s = fold_to n (column n scale) (Some s)
 
 -- row i of x, those after it being known; the sum starts at -0 and runs up from i + 1
 abbrev pub back_row : ℕ → System → ℕ → List Float → List Float
@@ -85,4 +85,4 @@ abbrev pub solvable : ℕ → Float → List Float → Bool
 solvable n scale b = finite scale && not (Ieee.eq scale zero64) && all_finite n b
 
 unfoldable pub solve : ℕ → Matrix → List Float → Option (List Float)
-solve n a b = cond (solvable n (scale_of n a) b) (triangular n (scale_of n a) (system a b) and_then λ s. finite_only n (backward n s)) none
+solve n a b = cond (solvable n (scale_of n a) b) (triangular n (scale_of n a) (system a b) and_then λ s. finite_only n (backward n s)) None

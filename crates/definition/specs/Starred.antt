@@ -1,7 +1,7 @@
 -- Document 01's starred cases as one list of statements, and beside it the orders that it warns of. A case of a fit is stated as what the report program
 -- prints, or the C entry returns, for the record of its setup and replies: so the setup is accepted and each reply was due.
 use Rattle.std.specs.Prelude.{ℕ, ◌≡◌, true, false, List, [], ◌∷◌, map, pos, replicate, drop, Float}
-use Rattle.std.proofs.Math.Option.{Option, none, some}
+use Rattle.std.specs.Prelude.{Option, None, Some}
 use Rattle.std.specs.Float.{nan, fin}
 use Rattle.definition.specs.Number.{two_to, two_to_minus, zero64, one64, two64, infinity, neg_infinity, to_word}
 use Rattle.definition.specs.Vector.{dot}
@@ -27,20 +27,20 @@ setup x b iterations values = record {
   bounds = b;
   maxiter = iterations;
   maxfev = values;
-  tol = none;
-  ftol = none;
-  gtol = none;
-  maxcor = none;
-  eps = none;
+  tol = None;
+  ftol = None;
+  gtol = None;
+  maxcor = None;
+  eps = None;
   scheme = Scheme.forward;
 }
 
 -- one coordinate, between two bounds
 abbrev pub between : Float → Float → Option Bounds
-between l u = some (record { lower = l ∷ []; upper = u ∷ [] })
+between l u = Some (record { lower = l ∷ []; upper = u ∷ [] })
 
 abbrev pub boxed : Float → Float → Float → Setup
-boxed x l u = setup (x ∷ []) (between l u) none none
+boxed x l u = setup (x ∷ []) (between l u) None None
 
 abbrev pub four : Float
 four = two_to 2
@@ -62,7 +62,7 @@ minus_one = fin true 1 (pos 0)
 
 -- one value and no more
 abbrev pub frugal : Option Bounds → Setup
-frugal b = setup (five ∷ []) b none (some 1)
+frugal b = setup (five ∷ []) b None (Some 1)
 
 -- status, nit, nfev, njev, value, point: the order of the printed lines
 abbrev pub reported : ℕ → ℕ → ℕ → ℕ → Float → Float → Report
@@ -113,33 +113,33 @@ starred =
     (printed (record_bytes (book parabola parabola_replies)) ≡ Printed.lines (reported 1 1 2 2 zero64 zero64))
     ∷ (returned 8 (record_bytes (book parabola (drop 3 parabola_replies))) ≡ value_asked zero64)
     -- empty x0: 1; both bounds +inf: 6; lower 2, upper 1: 5
-    ∷ (validate (setup [] none none none) ≡ refuse 1 0 0)
+    ∷ (validate (setup [] None None None) ≡ refuse 1 0 0)
     ∷ (validate (boxed zero64 infinity infinity) ≡ refuse 6 0 0)
     ∷ (validate (boxed zero64 two64 one64) ≡ refuse 5 0 0)
     -- n = 64 accepted, 65 refused by 10
-    ∷ (validate (setup (replicate 64 one64) none none none) ≡ none)
-    ∷ (validate (setup (replicate 65 one64) none none none) ≡ refuse 10 1 0)
+    ∷ (validate (setup (replicate 64 one64) None None None) ≡ None)
+    ∷ (validate (setup (replicate 65 one64) None None None) ≡ refuse 10 1 0)
     -- start 5, box 0 to 2: first question at 2; first reply NaN: status 6, counts 0, 1, 0
     ∷ (returned 8 (record_bytes (book (boxed five zero64 two64) [])) ≡ value_asked two64)
     ∷ (printed (record_bytes (book (boxed five zero64 two64) (Reply.value (to_word nan) ∷ []))) ≡ Printed.lines (reported 6 0 1 0 nan two64))
     -- maxfev 1, n = 1, open box, value 0, gradient not supplied: status 4, njev 0; with lower = upper: status 1, njev 1
-    ∷ (printed (record_bytes (book (frugal none) unsupplied)) ≡ Printed.lines (reported 4 0 1 0 zero64 five))
+    ∷ (printed (record_bytes (book (frugal None) unsupplied)) ≡ Printed.lines (reported 4 0 1 0 zero64 five))
     ∷ (printed (record_bytes (book (frugal (between five five)) unsupplied)) ≡ Printed.lines (reported 1 0 1 1 zero64 five))
     -- s = 2 ^ -52, y = 1: pair dropped; s = 2 ^ -51: kept, theta 2 ^ 51
     ∷ (one_pair (two_to_minus 52) ≡ no_pairs)
     ∷ (one_pair (two_to_minus 51) ≡ record { pairs = record { s = two_to_minus 51 ∷ []; y = one64 ∷ [] } ∷ []; theta = two_to 51; oldest = 0 })
     -- rows (2, 1), (-2, 1), right side (0, 4): second row pivots, answer (-1, 2)
     ∷ (pivot_of 2 (rows two64 one64 minus_two one64) 0 ≡ 1)
-    ∷ (solve 2 (rows two64 one64 minus_two one64) (zero64 ∷ four ∷ []) ≡ some (minus_one ∷ two64 ∷ []))
+    ∷ (solve 2 (rows two64 one64 minus_two one64) (zero64 ∷ four ∷ []) ≡ Some (minus_one ∷ two64 ∷ []))
     -- diagonal 1 and 2 ^ -46: refused; 1 and 2 ^ -45: solved
-    ∷ (diagonal (two_to_minus 46) ≡ none)
-    ∷ (diagonal (two_to_minus 45) ≡ some (one64 ∷ two_to 45 ∷ []))
+    ∷ (diagonal (two_to_minus 46) ≡ None)
+    ∷ (diagonal (two_to_minus 45) ≡ Some (one64 ∷ two_to 45 ∷ []))
     ∷ []
 
 -- ---- orders: "Ways to draw the wrong seam", and the readings that rest on an order
 
 abbrev pub one_iteration : Setup
-one_iteration = setup (four ∷ []) (between minus_eight eight) (some 1) none
+one_iteration = setup (four ∷ []) (between minus_eight eight) (Some 1) None
 
 abbrev pub full_memory : Compact
 full_memory = update 1 1 no_pairs (one64 ∷ []) (one64 ∷ [])
@@ -161,7 +161,7 @@ orders =
     ∷ (printed (record_bytes (book one_iteration (Reply.stop ∷ drop 1 parabola_replies))) ≡ Printed.lines (reported 5 1 2 2 zero64 zero64))
     -- lower > upper comes before the bounds that admit no coordinate, and the lower side's NaN before the upper's
     ∷ (validate (boxed zero64 infinity neg_infinity) ≡ refuse 5 0 0)
-    ∷ (validate (setup (zero64 ∷ zero64 ∷ []) (some (record { lower = zero64 ∷ nan ∷ []; upper = nan ∷ zero64 ∷ [] })) none none) ≡ refuse 4 1 0)
+    ∷ (validate (setup (zero64 ∷ zero64 ∷ []) (Some (record { lower = zero64 ∷ nan ∷ []; upper = nan ∷ zero64 ∷ [] })) None None) ≡ refuse 4 1 0)
     -- of equal break times the one inserted first comes first
     ∷ (inserted (break 1) (break 0 ∷ []) ≡ break 0 ∷ break 1 ∷ [])
     ∷ []

@@ -1,6 +1,6 @@
 -- What the arguments of a call are in a machine: bytes, words of 64 bits, floats of binary64.
 use Rattle.std.specs.Prelude.{ℕ, ◌<◌, List, [], ◌∷◌, T, Float}
-use Rattle.std.proofs.Math.Option.{Option, none, some}
+use Rattle.std.specs.Prelude.{Option, None, Some}
 use Rattle.std.specs.Float.{binary64}
 use Rattle.std.specs.Float.Ieee.{fits}
 use Rattle.definition.specs.Problem.{Setup, Bounds}
@@ -15,8 +15,8 @@ Each P [] = Unit {0}
 Each P (a ∷ l) = P a × Each P l
 
 abbrev pub Given : {A : Type 0} → (A → Type 0) → Option A → Type 0
-Given P none = Unit {0}
-Given P (some a) = P a
+Given P None = Unit {0}
+Given P (Some a) = P a
 
 abbrev pub Bytes : List ℕ → Type 0
 Bytes bs = Each (λ b. b < 256) bs

@@ -1,6 +1,6 @@
 -- Vectors are lists, read by index; loops run from index 0 up.
 use Rattle.std.specs.Prelude.{ℕ, zero, suc, Bool, true, cond, ◌&&◌, List, [], ◌∷◌, get_or, Float}
-use Rattle.std.proofs.Math.Option.{Option, none, some}
+use Rattle.std.specs.Prelude.{Option, None, Some}
 use Rattle.std.specs.Float.{nan}
 use Rattle.std.specs.Float.Ieee.Scale.{finite}
 use Rattle.definition.specs.Number.{plus, minus, times, neg_zero, zero64}
@@ -40,9 +40,9 @@ difference n a b = tab n (λ i. minus (word a i) (word b i))
 -- Rust's `?`: what follows is made of the value, where there is one
 infixr 20 ◌and_then◌
 abbrev pub ◌and_then◌ : {A B : Type 0} → Option A → (A → Option B) → Option B
-none and_then follow = none
-some a and_then follow = follow a
+None and_then follow = None
+Some a and_then follow = follow a
 
 -- the vector, if its first n places are finite
 abbrev pub finite_only : ℕ → List Float → Option (List Float)
-finite_only n v = cond (all_finite n v) (some v) none
+finite_only n v = cond (all_finite n v) (Some v) None

@@ -15,7 +15,7 @@ use Rattle.definition.specs.Machine.{Machine}
 use Rattle.definition.specs.Driver.{ask_value, complete, with_component, by_probes, probe_from, probed_to, probed, on_not_supplied, on_probe}
 use Rattle.area.specs.Area.{Vecs, view, upd, put_word, fill_of, rowwise, first_pair, Saved, vector_trial, vector_lower, vector_upper, vector_trial_gradient}
 use Rattle.area.proofs.Laws.{word-view, saved_refl, saved_upd}
-use Rattle.problem.specs.Setups.{float_of, scheme_of}
+use Rattle.problem.specs.Setups.{scheme_of}
 use Rattle.counters.specs.declared.Termination.TheVariants.{Nonfinite}
 use Rattle.gradient.specs.Probing.{probes_for}
 use Rattle.gradient.proofs.Laws.{probes_read}
@@ -60,7 +60,7 @@ all_probed n w j m l = let q : n - j ≡ 0 = omega arith in rw q
 
 -- what is probed, read off the area
 pub probes_of_lem : (t : Fit) (a : List Float) (i : ℕ) → i < t.shape.n
-    → probes_for (float_of t.options.eps) (scheme_of t.options.scheme)
+    → probes_for t.options.eps (scheme_of t.options.scheme)
     (word a (vector_trial * t.shape.n + i)) (word a (vector_lower * t.shape.n + i)) (word a (vector_upper * t.shape.n + i))
     ≡ probes_at (machine_of t a).terms (view a t.shape.n vector_trial) i
 probes_of_lem t a i h = probes_read (machine_of t a).terms a t.shape.n i h refl refl
@@ -189,7 +189,7 @@ module _ (q : Probing) (t : Fit) (a : List Float) where
 
   -- a finite value, by what is probed
   pub finite_probed : (v : Float) (x : Probes) (z : Next) (b : List Float) → q.i < t.shape.n → finite v ≡ true
-      → x ≡ probes_for (float_of t.options.eps) (scheme_of t.options.scheme)
+      → x ≡ probes_for t.options.eps (scheme_of t.options.scheme)
       (word a (vector_trial * t.shape.n + q.i)) (word a (vector_lower * t.shape.n + q.i)) (word a (vector_upper * t.shape.n + q.i))
       → LeadsTo (λ w. probed w q.i x (side_of q.side) v) q t a z b → LeadsTo (λ w. on_probe w q.i (side_of q.side) v) q t a z b
   finite_probed v x z b l f e h =

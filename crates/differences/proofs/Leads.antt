@@ -1,7 +1,7 @@
 -- Laws of `LeadsTo`: how it joins with a step before it, and what the budget and the gradient's end lead to. Assumes nothing.
 use mathlib.Core.Path.{◌≡◌, refl, ap, ◌∙◌}
 use mathlib.Core.List.{List}
-use mathlib.Core.Option.{none, some}
+use Rattle.std.specs.Prelude.{None, Some}
 use Prim.Native.Nat.{ℕ, ◌<◌}
 use lib.Ieee.{Float}
 use Rattle.definition.specs.Machine as M
@@ -58,7 +58,7 @@ module _ (q : Probing) (t : Fit) (i : ℕ) (side : Side) where
   abbrev pub asked_by : Counters → Probing
   asked_by k = record { i = i; side = side; right_value = q.right_value; counters = k; extra = q.extra }
 
-  pub charged_leads : (k : Counters) → i < t.shape.n → some (counters_of k) ≡ value_charge (limits_of t.limits) (counters_of q.counters)
+  pub charged_leads : (k : Counters) → i < t.shape.n → Some (counters_of k) ≡ value_charge (limits_of t.limits) (counters_of q.counters)
       → (a : List Float) → LeadsTo asking q t a (Probe (asked_by k)) a
   charged_leads k h e a =
       let charged = (charge_made (limits_of t.limits) (counters_of q.counters) (counters_of k) e).1 in
@@ -96,7 +96,7 @@ ended_leads {F} q t why a e = record {
       rw (s.0, s.1) on;
 }
 
-pub spent_leads : (q : Probing) (t : Fit) (i : ℕ) (side : Side) → none ≡ value_charge (limits_of t.limits) (counters_of q.counters)
+pub spent_leads : (q : Probing) (t : Fit) (i : ℕ) (side : Side) → None ≡ value_charge (limits_of t.limits) (counters_of q.counters)
     → (a : List Float) → LeadsTo (asking q t i side) q t a (Ended q MaxEvaluations) a
 spent_leads q t i side e a =
     ended_leads {F = asking q t i side} q t MaxEvaluations a

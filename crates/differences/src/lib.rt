@@ -11,7 +11,7 @@ ghost use Rattle.compact.specs.State.{Sound};
 ghost use Rattle.fit.specs.Ready.{Ready};
 ghost use Rattle.differences.specs.Probing.{numbered, probing, Settles, reached, LeadsTo, unprobed, first_side};
 
-use counters::{Charge, Counters, Termination};
+use counters::{Counters, Termination};
 use fit::{Extra, Fit, Phase, Place, Side};
 use gradient::Probes;
 
@@ -39,14 +39,12 @@ pub enum Next {
 pub fn numbers_of(fit: Fit, i: usize, side: Side) -> Probing
     ensures { (numbered fit.phase result fit ≡ fit) × (result.i ≡ i) × (result.side ≡ side) }
 {
-    let counters = fit.counters;
-    let extra = fit.extra;
     Probing {
-        i: i,
-        side: side,
+        i,
+        side,
         right_value: fit.right_value,
-        counters: counters,
-        extra: extra,
+        counters: fit.counters,
+        extra: fit.extra,
     }
 }
 
@@ -54,22 +52,22 @@ pub fn numbers_of(fit: Fit, i: usize, side: Side) -> Probing
 fn with_numbers(fit: Fit, numbers: Probing) -> Fit
     ensures { result ≡ numbered fit.phase numbers fit }
 {
-    let counters = numbers.counters;
-    let extra = numbers.extra;
-    let mut next = fit;
-    next.counters = counters;
-    next.right_value = numbers.right_value;
-    next.extra = extra;
-    next
+    Fit {
+        counters: numbers.counters,
+        right_value: numbers.right_value,
+        extra: numbers.extra,
+        ..fit
+    }
 }
 
 // The fit at a probe.
 pub fn with_probe(fit: Fit, place: Place, numbers: Probing) -> Fit
     ensures { result ≡ probing place numbers fit }
 {
-    let side = numbers.side;
-    let next = with_numbers(fit, numbers);
-    fit::with_phase(next, Phase::Probe(place, numbers.i, side))
+    Fit {
+        phase: Phase::Probe(place, numbers.i, numbers.side),
+        ..with_numbers(fit, numbers)
+    }
 }
 
 // ---- from probe to probe
@@ -77,12 +75,7 @@ pub fn with_probe(fit: Fit, place: Place, numbers: Probing) -> Fit
 fn is_unprobed(probes: Probes) -> bool
     ensures { result ≡ unprobed (probes_in probes) }
 {
-    match probes {
-        Probes::Neither => true,
-        Probes::Both(_, _) => false,
-        Probes::RightOnly(_) => false,
-        Probes::LeftOnly(_) => false,
-    }
+    matches!(probes, Probes::Neither)
 }
 
 // The side that is probed first.
@@ -90,10 +83,8 @@ fn first_side(probes: Probes) -> Side
     ensures { side_of result ≡ first_side (probes_in probes) }
 {
     match probes {
-        Probes::Neither => Side::Right,
-        Probes::Both(_, _) => Side::Right,
-        Probes::RightOnly(_) => Side::Right,
         Probes::LeftOnly(_) => Side::Left,
+        _ => Side::Right,
     }
 }
 
@@ -102,19 +93,15 @@ fn ask_probe(fit: Fit, numbers: Probing, i: usize, side: Side) -> Next
     requires { i < fit.shape.n }
     ensures { (a : List Float) → LeadsTo (λ w. ask_value (PhaseOf.probe w i (side_of side))) numbers fit a result a }
 {
-    let limits = fit.limits;
-    let counters = numbers.counters;
-    let charge = counters::value_charged(limits, counters);
-    let Charge::Charged(charged) = charge else {
+    let mut counters = numbers.counters;
+    if !counters.charge_value(fit.limits) {
         return Next::Ended(numbers, Termination::MaxEvaluations);
-    };
-    let extra = numbers.extra;
+    }
     Next::Probe(Probing {
-        i: i,
-        side: side,
-        right_value: numbers.right_value,
-        counters: charged,
-        extra: extra,
+        i,
+        side,
+        counters,
+        ..numbers
     })
 }
 
@@ -124,17 +111,12 @@ fn probe_from(fit: Fit, numbers: Probing, i: usize, area: &mut [f64]) -> Next
     ensures { LeadsTo (λ w. probe_from (fit.shape.n - i) w i) numbers fit area.old result area.new }
 {
     let n = fit.shape.n;
-    let options = fit.options;
-    let eps = options.eps;
-    let scheme = options.scheme;
-    let mut j = i;
-    while j < n {
-        let probes = gradient::probes_at(n, eps, scheme, area, j);
+    for j in i..n {
+        let probes = gradient::probes_at(n, &fit.options, area, j);
         if !is_unprobed(probes) {
             return ask_probe(fit, numbers, j, first_side(probes));
         }
         area::put(area, n, area::TRIAL_GRADIENT, j, 0.0);
-        j += 1;
     }
     Next::Complete(numbers)
 }
@@ -167,11 +149,12 @@ fn both_probed(
     ensures { LeadsTo (λ w. probed_of w numbers.i (both right left) (side_of numbers.side) value) numbers fit
         area.old result area.new }
 {
-    let side = numbers.side;
-    match side {
+    match numbers.side {
         Side::Right => {
-            let mut next = numbers;
-            next.right_value = value;
+            let next = Probing {
+                right_value: value,
+                ..numbers
+            };
             ask_probe(fit, next, numbers.i, Side::Left)
         }
         Side::Left => {
@@ -215,10 +198,7 @@ pub fn next_probe(fit: Fit, numbers: Probing, value: f64, area: &mut [f64]) -> N
     if !float::is_finite(value) {
         return Next::Ended(numbers, Termination::Nonfinite);
     }
-    let options = fit.options;
-    let eps = options.eps;
-    let scheme = options.scheme;
-    let probes = gradient::probes_at(fit.shape.n, eps, scheme, area, numbers.i);
+    let probes = gradient::probes_at(fit.shape.n, &fit.options, area, numbers.i);
     probed(fit, numbers, probes, value, area)
 }
 
@@ -233,10 +213,10 @@ pub fn settle(fit: Fit, place: Place, next: Next, area: &mut [f64]) -> Fit
             let complete = with_numbers(fit, numbers);
             judge::complete(complete, place, area)
         }
-        Next::Ended(numbers, why) => {
-            let last = with_numbers(fit, numbers);
-            fit::with_phase(last, Phase::Ended(why))
-        }
+        Next::Ended(numbers, why) => Fit {
+            phase: Phase::Ended(why),
+            ..with_numbers(fit, numbers)
+        },
     }
 }
 

@@ -4,7 +4,7 @@ use native.Mathlib.Omega.{arith}
 use mathlib.Core.Path.{◌≡◌, refl, sym, ap, ap₂, ◌∙◌}
 use mathlib.Core.Bool.{Bool, true, false, cond, not}
 use mathlib.Core.List.{List, map}
-use mathlib.Core.Option.{none}
+use Rattle.std.specs.Prelude.{None}
 use borrow.Author.Tests.{eqb-true, eq-eqb}
 use lib.ListN.{length}
 use lib.Ieee.{Float}
@@ -16,7 +16,8 @@ use Rattle.definition.specs.Driver as D
 use Rattle.definition.specs.Driver.{on_gradient}
 use Rattle.area.specs.Area.{Vecs}
 use Rattle.problem.specs.Setups.{check_of}
-use Rattle.problem.specs.declared.Checked.{Checked}
+use Rattle.std.specs.Prelude.{Result}
+use Rattle.problem.specs.declared.Refusal.{Refusal}
 use Rattle.fit.specs.declared.Fit.{Fit}
 use Rattle.fit.specs.declared.Phase.{Phase}
 use Rattle.fit.specs.declared.Place.{Place}
@@ -127,7 +128,7 @@ suits_any k R.Stop ws zs = refl
 suits_any k R.Failure ws zs = refl
 
 -- n words are not refused by 14
-pub right_length : (n : ℕ) (r : Reply) (ws : List ℕ) → length ws ≡ n → M.check_length n (replied r ws) ≡ none
+pub right_length : (n : ℕ) (r : Reply) (ws : List ℕ) → length ws ≡ n → M.check_length n (replied r ws) ≡ None
 right_length n (R.Value v) ws e = refl
 right_length n R.Gradient ws e = rw (eq-eqb (length ws) n e)
 right_length n R.NotSupplied ws e = refl
@@ -136,17 +137,17 @@ right_length n R.Stop ws e = refl
 right_length n R.Failure ws e = refl
 
 -- the kind decides
-pub due_by_kind : (m : M.Machine) (r : Reply) (ws : List ℕ) → length ws ≡ m.terms.n → M.takes m (replied r ws) ≡ true → M.check_due m (replied r ws) ≡ none
+pub due_by_kind : (m : M.Machine) (r : Reply) (ws : List ℕ) → length ws ≡ m.terms.n → M.takes m (replied r ws) ≡ true → M.check_due m (replied r ws) ≡ None
 due_by_kind m r ws e h = rw (h, right_length m.terms.n r ws e)
 
 pub undue_by_kind : (m : M.Machine) (q : M.Reply) → M.takes m q ≡ false → M.check_due m q ≡ refuse 13 0 0
 undue_by_kind m q h = rw h
 
 -- what `check_due` says of n words, for any vectors
-abbrev pub DueSaid : Fit → Reply → Checked → Type 0
+abbrev pub DueSaid : Fit → Reply → Result Unit Refusal → Type 0
 DueSaid t r c = (v : Vecs) (ws : List ℕ) → length ws ≡ t.shape.n → check_of c ≡ M.check_due (machine t v) (replied r ws)
 
-kind_then : (b : Bool) (k : Check) → ((when (not b) (refuse 13 0 0) then none) then k) ≡ (when (not b) (refuse 13 0 0) then k)
+kind_then : (b : Bool) (k : Check) → ((when (not b) (refuse 13 0 0) then None) then k) ≡ (when (not b) (refuse 13 0 0) then k)
 kind_then true k = refl
 kind_then false k = refl
 

@@ -1,5 +1,5 @@
 -- The reply that a fit is advanced by, and the definition's step for it.
-use Rattle.std.specs.Prelude.{ℕ, Bool, List, []}
+use Rattle.std.specs.Prelude.{ℕ, Bool, cond, eqb, List, []}
 use Rattle.definition.specs.Machine as M
 use Rattle.definition.specs.Driver as D
 use Rattle.fit.specs.State.{phase_of}
@@ -15,6 +15,19 @@ replied R.NotSupplied ws = M.Reply.not_supplied
 replied R.GoOn ws = M.Reply.go_on
 replied R.Stop ws = M.Reply.stop
 replied R.Failure ws = M.Reply.failure
+
+-- the kind of a reply, as the first word of its entry says
+abbrev pub entry_kind : Reply → ℕ
+entry_kind r = M.reply_kind (replied r [])
+
+-- the reply of a kind, with the word that a value has
+abbrev pub reply_at : ℕ → ℕ → Reply
+reply_at kind word =
+    cond (eqb kind 1) (R.Value word)
+    (cond (eqb kind 2) R.Gradient
+    (cond (eqb kind 3) R.NotSupplied
+    (cond (eqb kind 4) R.GoOn
+    (cond (eqb kind 5) R.Stop R.Failure))))
 
 -- the kind of the reply is that of the open question
 abbrev pub is_due : Fit → Reply → Bool

@@ -4,18 +4,18 @@
 ghost use Rattle.std.specs.Prelude.{◌≡◌, List, ℕ, length, cond};
 ghost use Rattle.area.specs.Area.{Vecs};
 ghost use Rattle.problem.specs.Setups.{check_of};
-ghost use Rattle.fit.specs.State.{machine, phase_of, Turns, Steps};
+ghost use Rattle.fit.specs.State.{kind_number, machine, phase_of, Turns, Steps};
 ghost use Rattle.fit.specs.Ready.{Ready};
 ghost use Rattle.definition.specs.Machine.{InRange, suits as suits_of, check_due};
 ghost use Rattle.driver.specs.declared.Reply.TheVariants.{Value, Gradient, NotSupplied, GoOn, Stop, Failure};
-ghost use Rattle.driver.specs.Replies.{replied, advanced};
+ghost use Rattle.driver.specs.Replies.{replied, entry_kind, reply_at, advanced};
 
 use counters::Termination;
-use fit::{Fit, Phase};
-use problem::Checked;
+use fit::{Fit, Kind, Phase};
+use problem::Refusal;
 
 // A reply; the words of a gradient stand in the area, as the trial's gradient.
-#[derive(Clone, Copy)]
+#[derive(Clone, Copy, Debug, PartialEq, Eq)]
 pub enum Reply {
     Value(u64),
     Gradient,
@@ -25,29 +25,57 @@ pub enum Reply {
     Failure,
 }
 
-// Whether a reply of this kind suits a question of kind `due`.
-fn suits(due: usize, reply: Reply) -> bool
-    ensures { (ws : List ℕ) → result ≡ suits_of due (replied reply ws) }
+impl Reply {
+    // The kind of the reply: the first word of its entry in a log.
+    pub fn kind(self) -> u64
+        ensures { result ≡ entry_kind self }
+    {
+        match self {
+            Reply::Value(_) => 1,
+            Reply::Gradient => 2,
+            Reply::NotSupplied => 3,
+            Reply::GoOn => 4,
+            Reply::Stop => 5,
+            Reply::Failure => 6,
+        }
+    }
+
+    // The reply of a kind, with the word that a value has; a failure past the kinds there are.
+    pub fn of_kind(kind: u64, word: u64) -> Reply
+        ensures { result ≡ reply_at kind word }
+    {
+        match kind {
+            1 => Reply::Value(word),
+            2 => Reply::Gradient,
+            3 => Reply::NotSupplied,
+            4 => Reply::GoOn,
+            5 => Reply::Stop,
+            _ => Reply::Failure,
+        }
+    }
+}
+
+// Whether a reply suits what is asked.
+fn suits(asked: Option<Kind>, reply: Reply) -> bool
+    ensures { (ws : List ℕ) → result ≡ suits_of (kind_number asked) (replied reply ws) }
 {
     match reply {
-        Reply::Value(_) => due == 1,
-        Reply::Gradient => due == 2,
-        Reply::NotSupplied => due == 2,
-        Reply::GoOn => due == 3,
-        Reply::Stop => due == 3,
-        Reply::Failure => due != 0,
+        Reply::Value(_) => asked == Some(Kind::Value),
+        Reply::Gradient | Reply::NotSupplied => asked == Some(Kind::Gradient),
+        Reply::GoOn | Reply::Stop => asked == Some(Kind::Notice),
+        Reply::Failure => asked.is_some(),
     }
 }
 
 // 13 where a reply is not due: the fit has ended, or the open question is of another kind. Whether a gradient has n words is asked where they stand.
-pub fn check_due(fit: Fit, reply: Reply) -> Checked
+pub fn check_due(fit: Fit, reply: Reply) -> Result<(), Refusal>
     ensures { (v : Vecs) (ws : List ℕ) → length ws ≡ fit.shape.n → check_of result ≡ check_due (machine fit v) (replied reply ws) }
 {
-    let phase = fit.phase;
-    if suits(fit::question_kind(phase), reply) {
-        return Checked::Passed;
+    if suits(fit::asked(fit.phase), reply) {
+        Ok(())
+    } else {
+        Err(Refusal::NotDue)
     }
-    problem::refused(13, 0, 0)
 }
 
 // A value, at a place or at a probe.
@@ -55,8 +83,7 @@ fn on_value_word(fit: Fit, area: &mut [f64], word: u64) -> Fit
     requires { Ready fit (length area.old) × InRange (phase_of fit.phase) fit.shape.n }
     ensures { Steps (advanced (Value word)) fit area.old result area.new }
 {
-    let phase = fit.phase;
-    match phase {
+    match fit.phase {
         Phase::Value(place) => judge::on_value(fit, place, float::word_to_float(word)),
         Phase::Probe(place, i, side) => differences::on_probe(
             fit,
@@ -66,9 +93,7 @@ fn on_value_word(fit: Fit, area: &mut [f64], word: u64) -> Fit
             float::word_to_float(word),
             area,
         ),
-        Phase::Gradient(_) => fit,
-        Phase::Notice => fit,
-        Phase::Ended(_) => fit,
+        _ => fit,
     }
 }
 
@@ -77,8 +102,7 @@ fn on_gradient(fit: Fit, area: &mut [f64], supplied: bool) -> Fit
     requires { Ready fit (length area.old) }
     ensures { Steps (advanced (cond supplied Gradient NotSupplied)) fit area.old result area.new }
 {
-    let phase = fit.phase;
-    let Phase::Gradient(place) = phase else {
+    let Phase::Gradient(place) = fit.phase else {
         return fit;
     };
     if supplied {
@@ -93,8 +117,7 @@ fn on_notice(fit: Fit, area: &mut [f64], stop: bool) -> Fit
     requires { Ready fit (length area.old) }
     ensures { Steps (advanced (cond stop Stop GoOn)) fit area.old result area.new }
 {
-    let phase = fit.phase;
-    let Phase::Notice = phase else {
+    let Phase::Notice = fit.phase else {
         return fit;
     };
     if stop {
@@ -108,11 +131,10 @@ fn on_notice(fit: Fit, area: &mut [f64], stop: bool) -> Fit
 fn on_failure(fit: Fit) -> Fit
     ensures { Turns (advanced Failure) fit result }
 {
-    let phase = fit.phase;
-    if fit::question_kind(phase) == 0 {
-        return fit;
+    match fit.phase {
+        Phase::Ended(_) => fit,
+        _ => fit::ended(fit, Termination::ObjectiveFailed),
     }
-    fit::ended(fit, Termination::ObjectiveFailed)
 }
 
 // From a reply to the next question; a reply that is not due moves nothing.

@@ -4,7 +4,8 @@ use native.Mathlib.Omega.{arith}
 use mathlib.Core.Path.{◌≡◌, refl, sym, ap, ◌∙◌, subst}
 use mathlib.Core.Bool.{Bool, true, false, cond}
 use mathlib.Core.List.{List, [], map}
-use mathlib.Core.Option.{Option, none, some}
+use Rattle.std.specs.Prelude.{Option, None, Some, Result, Ok, Err}
+use Rattle.std.specs.Result.{result_unwrap_or}
 use borrow.Author.Tests.{lt-ltb, le-ltb}
 use lib.Dec.{eqb, ltb}
 use lib.ListN.{length, take}
@@ -25,17 +26,13 @@ use Rattle.definition.proofs.Accepted.{accepted_in_limits}
 use Rattle.problem.specs.Setups.{refusal_of}
 use Rattle.problem.specs.declared.Refusal.{Refusal}
 use Rattle.fit.specs.declared.Fit.{Fit}
+use Rattle.fit.specs.declared.Kind.{Kind}
+use Rattle.fit.specs.State.{kind_number}
 use Rattle.question.specs.Reports.{written, report_of}
 use Rattle.question.specs.declared.Outcome.{Outcome}
 use Rattle.held.proofs.Test.{ready_facts, held_ready}
 use Rattle.lbfgsb.specs.Words.{words, Held}
 use Rattle.lbfgsb.specs.Bridge.{asked, told}
-use Rattle.lbfgsb.specs.declared.Answer.{Answer}
-use Rattle.lbfgsb.specs.declared.Answer.TheVariants as A
-use Rattle.lbfgsb.specs.declared.Asked.{Asked}
-use Rattle.lbfgsb.specs.declared.Asked.TheVariants as Q
-use Rattle.lbfgsb.specs.declared.Told.{Told}
-use Rattle.lbfgsb.specs.declared.Told.TheVariants as T
 use Rattle.input.specs.Input.{Taken}
 use Rattle.definition.proofs.Numbered.{ReadNumbered, table_numbers, input_numbered, restores}
 use Rattle.entry.specs.Entry.{Returns, HasEnded}
@@ -64,8 +61,8 @@ module _ (room : ℕ) (b : Book) (a : Accepted b.setup) (h : P.most_coordinates 
   question_answered = go (question (run_of b))
     where
       go : (q : Option Question) → refused_by (check_question b room q) (H.Answer.asked (question (run_of b))) ≡ H.Answer.asked (question (run_of b))
-      go none = refl
-      go (some q) = rw fits
+      go None = refl
+      go (Some q) = rw fits
 
   abbrev whole : H.Answer
   whole = H.Answer.reported (report_now (run_of b))
@@ -81,7 +78,7 @@ module _ (room : ℕ) (b : Book) (a : Accepted b.setup) (h : P.most_coordinates 
 
 -- ---- a fit that has ended: only a failure has no report
 
-ended_status : (m : Machine) (p : Phase) → question_in m p ≡ none → unreported p ≡ eqb (status_of p) 8
+ended_status : (m : Machine) (p : Phase) → question_in m p ≡ None → unreported p ≡ eqb (status_of p) 8
 ended_status m (Phase.value w) e = let z : ◌≡◌ {A = ℕ} 0 1 = cc in absurd (omega arith)
 ended_status m (Phase.gradient w) e = let z : ◌≡◌ {A = ℕ} 0 1 = cc in absurd (omega arith)
 ended_status m (Phase.probe w i side) e = let z : ◌≡◌ {A = ℕ} 0 1 = cc in absurd (omega arith)
@@ -89,20 +86,20 @@ ended_status m Phase.notice e = let z : ◌≡◌ {A = ℕ} 0 1 = cc in absurd (
 ended_status m (Phase.ended t) e = refl
 
 module _ (m : Machine) (room n : ℕ) (p : List Float) (out : List ℕ) (e : HasEnded m) where
-  abbrev Reported : Told → Type 0
+  abbrev Reported : Result Outcome Refusal → Type 0
   Reported t = told t n p ≡ cond (unreported m.phase) (H.Answer.refused (plain_refusal 15)) (H.Answer.reported (report_now m))
 
-  pub end_failed : (t : Told) (c : Refusal) → t ≡ T.Refused c → Reported t → Returns (return_end room m) 0 out out
-  end_failed t c q h = rw (sym (ended_status m m.phase e)) (go (unreported m.phase) (sym (ap (λ (x : Told). told x n p) q) ∙ h))
+  pub end_failed : (t : Result Outcome Refusal) (c : Refusal) → t ≡ Err c → Reported t → Returns (return_end room m) 0 out out
+  end_failed t c q h = rw (sym (ended_status m m.phase e)) (go (unreported m.phase) (sym (ap (λ (x : Result Outcome Refusal). told x n p) q) ∙ h))
     where
       go : (b : Bool) → H.Answer.refused (refusal_of c) ≡ cond b (H.Answer.refused (plain_refusal 15)) (H.Answer.reported (report_now m))
           → Returns (cond b (record { number = 0; output = [] }) (return_point room 0 m.held.x)) 0 out out
       go true h = record { number = refl; output = refl }
       go false h = let z : ◌≡◌ {A = ℕ} 0 1 = cc in absurd (omega arith)
 
-  pub end_put : (t : Told) (o : Outcome) (r : ℕ) (out' : List ℕ) → t ≡ T.Is o → Reported t → Returns (return_point room 0 (take n p)) r out out'
-      → Returns (return_end room m) r out out'
-  end_put t o r out' q h k = rw (sym (ended_status m m.phase e)) (go (unreported m.phase) (sym (ap (λ (x : Told). told x n p) q) ∙ h))
+  pub end_put : (t : Result Outcome Refusal) (o : Outcome) (r : ℕ) (out' : List ℕ) → t ≡ Ok o → Reported t
+      → Returns (return_point room 0 (take n p)) r out out' → Returns (return_end room m) r out out'
+  end_put t o r out' q h k = rw (sym (ended_status m m.phase e)) (go (unreported m.phase) (sym (ap (λ (x : Result Outcome Refusal). told x n p) q) ∙ h))
     where
       go : (b : Bool) → H.Answer.reported (report_of o (take n p)) ≡ cond b (H.Answer.refused (plain_refusal 15)) (H.Answer.reported (report_now m))
           → Returns (cond b (record { number = 0; output = [] }) (return_point room 0 m.held.x)) r out out'
@@ -114,20 +111,31 @@ module _ (m : Machine) (room n : ℕ) (p : List Float) (out : List ℕ) (e : Has
 -- ---- the open question
 
 module _ (m : Machine) (n : ℕ) (p : List Float) where
-  pub asked_nothing : (q : Asked) → ((k : ℕ) → q ≡ Q.Is k → ⊥) → asked q n p ≡ H.Answer.asked (question m) → HasEnded m
-  asked_nothing Q.Nothing o e = cc
-  asked_nothing (Q.Is k) o e = absurd (o k refl)
-  asked_nothing (Q.Refused c) o e = let z : ◌≡◌ {A = ℕ} 0 1 = cc in absurd (omega arith)
+  -- a refusal is nothing asked
+  abbrev Open : Result (Option Kind) Refusal → Option Kind → Type 0
+  Open q a = a ≡ result_unwrap_or q None
 
-  pub asked_put : (q : Asked) (k room r : ℕ) (out out' : List ℕ) → q ≡ Q.Is k → asked q n p ≡ H.Answer.asked (question m)
-      → Returns (return_point room k (take n p)) r out out' → Returns (return_fit room m (question m)) r out out'
-  asked_put q k room r out out' e h g = go (question m) (sym (ap (λ (x : Asked). asked x n p) e) ∙ h)
+  pub asked_nothing : (q : Result (Option Kind) Refusal) (a : Option Kind) → Open q a → a ≡ None → asked q n p ≡ H.Answer.asked (question m) → HasEnded m
+  asked_nothing (Ok None) a o i e = cc
+  asked_nothing (Ok (Some k)) a o i e = let z : ◌≡◌ {A = ℕ} 0 1 = cc in absurd (omega arith)
+  asked_nothing (Err c) a o i e = let z : ◌≡◌ {A = ℕ} 0 1 = cc in absurd (omega arith)
+
+  pub asked_is : (q : Result (Option Kind) Refusal) (a : Option Kind) (k : Kind) → Open q a → a ≡ Some k → q ≡ Ok (Some k)
+  asked_is (Ok x) a k o i = cc
+  asked_is (Err c) a k o i = let z : ◌≡◌ {A = ℕ} 0 1 = cc in absurd (omega arith)
+
+  pub asked_put : (q : Result (Option Kind) Refusal) (k : Kind) (j room r : ℕ) (out out' : List ℕ) → q ≡ Ok (Some k) → j ≡ kind_number (Some k)
+      → asked q n p ≡ H.Answer.asked (question m) → Returns (return_point room j (take n p)) r out out'
+      → Returns (return_fit room m (question m)) r out out'
+  asked_put q k j room r out out' e i h g = go (question m) (sym (ap (λ (x : Result (Option Kind) Refusal). asked x n p) e) ∙ h)
     where
-      go : (o : Option Question) → H.Answer.asked (some (record { kind = k; point = take n p })) ≡ H.Answer.asked o → Returns (return_fit room m o) r out out'
-      go none h = let z : ◌≡◌ {A = ℕ} 0 1 = cc in absurd (omega arith)
-      go (some x) h =
-          let same : ◌≡◌ {A = Question} (record { kind = k; point = take n p }) x = cc in
-          subst (λ (y : Question). Returns (return_point room y.kind y.point) r out out') same g
+      go : (o : Option Question) → H.Answer.asked (Some (record { kind = kind_number (Some k); point = take n p })) ≡ H.Answer.asked o
+          → Returns (return_fit room m o) r out out'
+      go None h = let z : ◌≡◌ {A = ℕ} 0 1 = cc in absurd (omega arith)
+      go (Some x) h =
+          let same : ◌≡◌ {A = Question} (record { kind = kind_number (Some k); point = take n p }) x = cc in
+          subst (λ (y : Question). Returns (return_point room y.kind y.point) r out out') same
+          (subst (λ (x : ℕ). Returns (return_point room x (take n p)) r out out') i g)
 
 pub fit_ended : (m : Machine) (room r : ℕ) (out out' : List ℕ) → HasEnded m → Returns (return_end room m) r out out'
     → Returns (return_fit room m (question m)) r out out'
@@ -136,41 +144,41 @@ fit_ended m room r out out' e h = rw e h
 -- ---- what is read
 
 module _ (a : List Float) (l : List ℕ) where
-  small : (d : Reading) (f : Fit) → Taken d (A.Kept f) a l → f.shape.n ≤ input_coordinates
+  small : (d : Reading) (f : Fit) → Taken d (Ok f) a l → f.shape.n ≤ input_coordinates
   small (Reading.accepted b) f h = omega (arith, (ready_facts f (length a) (held_ready f a h.stands.test)).ready)
   small (Reading.refused c) f h = absurd h
   small (Reading.refused_at_entry c) f h = absurd h
 
-  pub read_small : (d : Reading) (r : Answer) (f : Fit) → r ≡ A.Kept f → Taken d r a l → f.shape.n ≤ input_coordinates
-  read_small d r f e h = small d f (subst (λ (x : Answer). Taken d x a l) e h)
+  pub read_small : (d : Reading) (r : Result Fit Refusal) (f : Fit) → r ≡ Ok f → Taken d r a l → f.shape.n ≤ input_coordinates
+  read_small d r f e h = small d f (subst (λ (x : Result Fit Refusal). Taken d x a l) e h)
 
   abbrev Fitted : Fit → ℕ → ℕ → List ℕ → List ℕ → Type 0
   Fitted f room k out out' =
       (l : List ℕ) (b : Book) → Held (words f a l) b → Returns (return_fit room (run_of b) (question (run_of b))) k out out'
 
-  kept : (d : Reading) (f : Fit) (room k : ℕ) (out out' : List ℕ) → Taken d (A.Kept f) a l → Fitted f room k out out' → Returns (return_of room d) k out out'
+  kept : (d : Reading) (f : Fit) (room k : ℕ) (out out' : List ℕ) → Taken d (Ok f) a l → Fitted f room k out out' → Returns (return_of room d) k out out'
   kept (Reading.accepted b) f room k out out' h g = g l b h
   kept (Reading.refused c) f room k out out' h g = absurd h
   kept (Reading.refused_at_entry c) f room k out out' h g = absurd h
 
-  pub read_kept : (d : Reading) (r : Answer) (f : Fit) (room k : ℕ) (out out' : List ℕ) → r ≡ A.Kept f → Taken d r a l → Fitted f room k out out'
+  pub read_kept : (d : Reading) (r : Result Fit Refusal) (f : Fit) (room k : ℕ) (out out' : List ℕ) → r ≡ Ok f → Taken d r a l → Fitted f room k out out'
       → Returns (return_of room d) k out out'
-  read_kept d r f room k out out' e h g = kept d f room k out out' (subst (λ (x : Answer). Taken d x a l) e h) g
+  read_kept d r f room k out out' e h g = kept d f room k out out' (subst (λ (x : Result Fit Refusal). Taken d x a l) e h) g
 
-  few : (d : Reading) (c : Refusal) → ReadNumbered d → Taken d (A.Refused c) a l → c.number ≤ most_refusal
+  few : (d : Reading) (c : Refusal) → ReadNumbered d → Taken d (Err c) a l → (refusal_of c).number ≤ most_refusal
   few (Reading.accepted b) c n h = absurd h
   few (Reading.refused k) c n h = omega (arith, ap (λ (x : P.Refusal). x.number) h, (table_numbers (Call.restore []) k.number n).1)
   few (Reading.refused_at_entry k) c n h =
       omega (arith, ap (λ (x : P.Refusal). x.number) h, (table_numbers (Call.restore []) k.number (restores (Reading.refused_at_entry k) n)).1)
 
-  pub read_few : (bs : List ℕ) (r : Answer) (c : Refusal) → r ≡ A.Refused c → Taken (read_input bs) r a l → c.number ≤ most_refusal
-  read_few bs r c e h = few (read_input bs) c (input_numbered bs) (subst (λ (x : Answer). Taken (read_input bs) x a l) e h)
+  pub read_few : (bs : List ℕ) (r : Result Fit Refusal) (c : Refusal) → r ≡ Err c → Taken (read_input bs) r a l → (refusal_of c).number ≤ most_refusal
+  read_few bs r c e h = few (read_input bs) c (input_numbered bs) (subst (λ (x : Result Fit Refusal). Taken (read_input bs) x a l) e h)
 
-  refused : (d : Reading) (c : Refusal) (room : ℕ) (out : List ℕ) → Taken d (A.Refused c) a l → Returns (return_of room d) (100 + c.number) out out
+  refused : (d : Reading) (c : Refusal) (room : ℕ) (out : List ℕ) → Taken d (Err c) a l → Returns (return_of room d) (100 + (refusal_of c).number) out out
   refused (Reading.accepted b) c room out h = absurd h
   refused (Reading.refused k) c room out h = record { number = ap (λ (x : P.Refusal). 100 + x.number) h; output = refl }
   refused (Reading.refused_at_entry k) c room out h = record { number = ap (λ (x : P.Refusal). 100 + x.number) h; output = refl }
 
-  pub read_refused : (d : Reading) (r : Answer) (c : Refusal) (room : ℕ) (out : List ℕ) → r ≡ A.Refused c → Taken d r a l
-      → Returns (return_of room d) (100 + c.number) out out
-  read_refused d r c room out e h = refused d c room out (subst (λ (x : Answer). Taken d x a l) e h)
+  pub read_refused : (d : Reading) (r : Result Fit Refusal) (c : Refusal) (room : ℕ) (out : List ℕ) → r ≡ Err c → Taken d r a l
+      → Returns (return_of room d) (100 + (refusal_of c).number) out out
+  read_refused d r c room out e h = refused d c room out (subst (λ (x : Result Fit Refusal). Taken d x a l) e h)

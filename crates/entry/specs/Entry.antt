@@ -1,6 +1,6 @@
 -- What the C entry returns and writes, by the definition.
 use Rattle.std.specs.Prelude.{ℕ, ◌≡◌, List}
-use Rattle.std.proofs.Math.Option.{none}
+use Rattle.std.specs.Prelude.{None}
 use Rattle.definition.specs.Machine.{Machine, question}
 use Rattle.definition.specs.Programs.{Returned}
 use Rattle.question.specs.Reports.{written}
@@ -12,4 +12,4 @@ pub record Returns (a : Returned) (r : ℕ) (out out' : List ℕ) : Type 0 where
 
 -- no question is open
 abbrev pub HasEnded : Machine → Type 0
-HasEnded m = question m ≡ none
+HasEnded m = question m ≡ None

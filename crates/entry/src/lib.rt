@@ -11,17 +11,16 @@ ghost use Rattle.question.specs.Reports.{written};
 ghost use Rattle.lbfgsb.specs.Words.{words, Held};
 ghost use Rattle.entry.specs.Entry.{Returns, HasEnded};
 
-use lbfgsb::{Answer, Asked, Fit, Told};
+use lbfgsb::Fit;
 
-// The words of the first n floats, little-endian, into the front of the output.
-fn put_floats(out: &mut [u8], point: &[f64], n: usize)
-    requires { (n ≤ length point.now) × (8 * n ≤ length out.old) }
-    ensures { out.new ≡ written (bytes (map to_word (take n point.now))) out.old }
+// The words of the floats, little-endian, into the front of the output.
+fn put_floats(out: &mut [u8], point: &[f64])
+    requires { 8 * length point.now ≤ length out.old }
+    ensures { out.new ≡ written (bytes (map to_word point.now)) out.old }
 {
-    let mut i = 0;
-    while i < n {
-        record::put_word(out, 8 * i, float::float_to_word(point[i]));
-        i += 1;
+    // Kept: an index. What `chunks_exact_mut` leaves in the output is not known to a proof.
+    for (i, x) in point.iter().enumerate() {
+        record::put_word(out, 8 * i, float::float_to_word(*x));
     }
 }
 
@@ -33,7 +32,7 @@ fn put_point(out: &mut [u8], number: u64, point: &[f64], n: usize) -> u64
     if out.len() / 8 < n {
         return 119;
     }
-    put_floats(out, point, n);
+    put_floats(out, &point[..n]);
     number
 }
 
@@ -44,8 +43,7 @@ fn ended(fit: Fit, area: &[f64], out: &mut [u8]) -> u64
         → Returns (return_end (length out.old) (run_of b)) result out.old out.new }
 {
     let mut point = [0.0f64; input::COORDINATES];
-    let told = lbfgsb::report(fit, area, &mut point);
-    let Told::Is(_) = told else {
+    let Ok(_) = lbfgsb::report(fit, area, &mut point) else {
         return 0;
     };
     put_point(out, 0, &point, fit.shape.n)
@@ -58,11 +56,11 @@ fn answer(fit: Fit, area: &[f64], out: &mut [u8]) -> u64
         → Returns (return_fit (length out.old) (run_of b) (question (run_of b))) result out.old out.new }
 {
     let mut point = [0.0f64; input::COORDINATES];
-    let asked = lbfgsb::question(fit, area, &mut point);
-    let Asked::Is(kind) = asked else {
+    let asked = lbfgsb::question(fit, area, &mut point).unwrap_or(None);
+    let Some(kind) = asked else {
         return ended(fit, area, out);
     };
-    put_point(out, kind as u64, &point, fit.shape.n)
+    put_point(out, kind.number() as u64, &point, fit.shape.n)
 }
 
 // 1 a value, 2 a gradient, 3 a notice is asked, 0 the fit has ended, or 100 and the number of a refusal.
@@ -72,9 +70,8 @@ pub extern "C" fn lbfgsb_entry(input: &[u8], out: &mut [u8]) -> u64
 {
     let mut area = [0.0f64; input::AREA];
     let mut log = [0u64; input::LOG];
-    let read = input::read(&mut area, &mut log, input);
-    match read {
-        Answer::Kept(fit) => answer(fit, &area, out),
-        Answer::Refused(c) => 100 + c.number as u64,
+    match input::read(&mut area, &mut log, input) {
+        Ok(fit) => answer(fit, &area, out),
+        Err(refusal) => 100 + refusal.number() as u64,
     }
 }

@@ -1,7 +1,7 @@
 -- Laws of `specs/State.antt`: how `Turns` and `Steps` join, and what leaves the machine as it was. Assumes nothing.
 use mathlib.Core.Path.{◌≡◌, refl, ap, ◌∙◌}
 use mathlib.Core.List.{List}
-use mathlib.Core.Option.{none, some}
+use Rattle.std.specs.Prelude.{None, Some}
 use Prim.Native.Nat.{ℕ, ◌+◌, ◌*◌, ◌≤◌, ◌<◌}
 use native.Mathlib.Omega.{arith}
 use lib.Ieee.{Float}
@@ -180,20 +180,7 @@ model_stays {t} r l f h = moved refl kept_refl refl (record { x0 = l vector_x0 (
 
 -- t, with another ring and theta
 abbrev pub with_ring : Shape → Float → Fit → Fit
-with_ring h theta t = record {
-  shape = h;
-  options = t.options;
-  limits = t.limits;
-  counters = t.counters;
-  phase = t.phase;
-  search = t.search;
-  value = t.value;
-  trial_value = t.trial_value;
-  right_value = t.right_value;
-  value_before = t.value_before;
-  theta = theta;
-  extra = t.extra;
-}
+with_ring h theta t = record t { shape = h; theta = theta }
 
 pub compacted : {t : Fit} {h : Shape} {theta : Float} {c : Compact} {a b : List Float}
     → h.n ≡ t.shape.n → h.m ≡ t.shape.m → ((size : ℕ) → Sound t.shape size → Sound h size)
@@ -214,12 +201,12 @@ compacted {t} {h} {theta} {c} {a} {b} n m s e l f = record {
 -- ---- counters
 
 -- a charge that is made asks
-pub charge_asks : (p : M.Phase) (m : M.Machine) (k : C.Counters) → some k ≡ value_charge m.limits m.counters → M.in_phase p (M.counting k m) ≡ ask_value p m
+pub charge_asks : (p : M.Phase) (m : M.Machine) (k : C.Counters) → Some k ≡ value_charge m.limits m.counters → M.in_phase p (M.counting k m) ≡ ask_value p m
 unfolding ask_value
 charge_asks p m k e = let h = charge_made m.limits m.counters k e in rw (h.0, h.1)
 
 -- one that is not made ends the fit
-pub charge_ends : (p : M.Phase) (m : M.Machine) → none ≡ value_charge m.limits m.counters → M.ending C.Termination.max_evaluations m ≡ ask_value p m
+pub charge_ends : (p : M.Phase) (m : M.Machine) → None ≡ value_charge m.limits m.counters → M.ending C.Termination.max_evaluations m ≡ ask_value p m
 unfolding ask_value
 charge_ends p m e = rw (charge_spent m.limits m.counters e)
 

@@ -1,9 +1,10 @@
 -- The definition's machine, read off a fit and the vectors of its area.
 use Rattle.std.specs.Prelude.{ℕ, ◌+◌, ◌^◌, ◌≡◌, List, Float}
+use Rattle.std.specs.Prelude.{Option, None, Some}
 use Rattle.definition.specs.Problem as P
 use Rattle.definition.specs.Compact as C
 use Rattle.definition.specs.Machine as M
-use Rattle.problem.specs.Setups.{float_of, scheme_of, limits_of}
+use Rattle.problem.specs.Setups.{scheme_of, limits_of}
 use Rattle.counters.specs.Counts.{counters_of, termination_of}
 use Rattle.search.specs.State.{search_of, Settled}
 use Rattle.compact.specs.State.{pairs_of, Sound}
@@ -14,6 +15,8 @@ use Rattle.fit.specs.declared.Place.{Place}
 use Rattle.fit.specs.declared.Place.TheVariants as W
 use Rattle.fit.specs.declared.Side.{Side}
 use Rattle.fit.specs.declared.Side.TheVariants.{Right, Left}
+use Rattle.fit.specs.declared.Kind.{Kind}
+use Rattle.fit.specs.declared.Kind.TheVariants as K
 use Rattle.fit.specs.declared.Phase.{Phase}
 use Rattle.fit.specs.declared.Phase.TheVariants.{Value, Gradient, Probe, Notice, Ended}
 
@@ -32,12 +35,19 @@ phase_of (Probe w i s) = M.Phase.probe (place_of w) i (side_of s)
 phase_of Notice = M.Phase.notice
 phase_of (Ended t) = M.Phase.ended (termination_of t)
 
+-- the number of a question's kind, 0 where nothing is asked
+abbrev pub kind_number : Option Kind → ℕ
+kind_number None = 0
+kind_number (Some K.Value) = 1
+kind_number (Some K.Gradient) = 2
+kind_number (Some K.Notice) = 3
+
 abbrev pub terms_of : Fit → Vecs → P.Terms
 terms_of t v = record {
   n = t.shape.n;
   bounds = record { lower = v vector_lower; upper = v vector_upper };
   maxcor = t.shape.m;
-  eps = float_of t.options.eps;
+  eps = t.options.eps;
   scheme = scheme_of t.options.scheme;
 }
 
@@ -85,20 +95,7 @@ pub record Steps (F : M.Machine → M.Machine) (t : Fit) (a : List Float) (r : F
   pub is : machine_of r b ≡ F (machine_of t a)
 
 abbrev pub with_phase : Phase → Fit → Fit
-with_phase p t = record {
-  shape = t.shape;
-  options = t.options;
-  limits = t.limits;
-  counters = t.counters;
-  phase = p;
-  search = t.search;
-  value = t.value;
-  trial_value = t.trial_value;
-  right_value = t.right_value;
-  value_before = t.value_before;
-  theta = t.theta;
-  extra = t.extra;
-}
+with_phase p t = record t { phase = p }
 
 -- the log's numbers are not near where a sum would wrap
 abbrev pub most_words : ℕ
@@ -113,17 +110,4 @@ abbrev pub more_kept : Extra → ℕ → Extra
 more_kept x l = record { entries = x.entries + 1; words = x.words + l }
 
 abbrev pub with_extra : Extra → Fit → Fit
-with_extra x t = record {
-  shape = t.shape;
-  options = t.options;
-  limits = t.limits;
-  counters = t.counters;
-  phase = t.phase;
-  search = t.search;
-  value = t.value;
-  trial_value = t.trial_value;
-  right_value = t.right_value;
-  value_before = t.value_before;
-  theta = t.theta;
-  extra = x;
-}
+with_extra x t = record t { extra = x }

@@ -1,32 +1,32 @@
 // The state of a fit, by value, and the steps that touch no vector.
 #![tactic(auto)]
 
-ghost use Rattle.std.specs.Prelude.{◌≡◌, ◌+◌, ◌<◌};
+ghost use Rattle.std.specs.Prelude.{◌≡◌, ◌+◌, ◌<◌, Some};
 ghost use Rattle.definition.specs.Machine.{kind_of, ending};
 ghost use Rattle.definition.specs.Driver.{ask_value, valued as valued_of};
 ghost use Rattle.counters.specs.Counts.{termination_of};
-ghost use Rattle.fit.specs.State.{with_phase, usizes, more_kept, with_extra, phase_of, place_of, Turns};
+ghost use Rattle.fit.specs.State.{kind_number, with_phase, usizes, more_kept, with_extra, phase_of, place_of, Turns};
 
 use compact::Shape;
-use counters::{Charge, Counters, Termination};
+use counters::{Counters, Termination};
 use problem::{Limits, Options};
 use search::Search;
 
 // Where a value and a gradient are asked: at the start, or at a trial of the search.
-#[derive(Clone, Copy)]
+#[derive(Clone, Copy, Debug, PartialEq, Eq)]
 pub enum Place {
     Start,
     Trial,
 }
 
-#[derive(Clone, Copy)]
+#[derive(Clone, Copy, Debug, PartialEq, Eq)]
 pub enum Side {
     Right,
     Left,
 }
 
 // What is asked: the value at a place, its gradient, the value at a probe of a coordinate, the notice; or nothing more.
-#[derive(Clone, Copy)]
+#[derive(Clone, Copy, Debug, PartialEq, Eq)]
 pub enum Phase {
     Value(Place),
     Gradient(Place),
@@ -35,8 +35,16 @@ pub enum Phase {
     Ended(Termination),
 }
 
+// The kind of a question.
+#[derive(Clone, Copy, Debug, PartialEq, Eq)]
+pub enum Kind {
+    Value,
+    Gradient,
+    Notice,
+}
+
 // What is counted of the log, and not the machine's: the entries kept, and their words.
-#[derive(Clone, Copy)]
+#[derive(Clone, Copy, Debug, PartialEq, Eq)]
 pub struct Extra {
     pub entries: usize,
     pub words: usize,
@@ -63,16 +71,28 @@ pub struct Fit {
     pub extra: Extra,
 }
 
-// The kind of a phase's question: 1 value, 2 gradient, 3 iteration notice, 0 nothing.
-pub fn question_kind(phase: Phase) -> usize
-    ensures { result ≡ kind_of (phase_of phase) }
+impl Kind {
+    // The kind's number in a record and in a log.
+    pub fn number(self) -> usize
+        ensures { result ≡ kind_number (Some self) }
+    {
+        match self {
+            Kind::Value => 1,
+            Kind::Gradient => 2,
+            Kind::Notice => 3,
+        }
+    }
+}
+
+// The kind of a phase's question, where one is asked.
+pub fn asked(phase: Phase) -> Option<Kind>
+    ensures { kind_number result ≡ kind_of (phase_of phase) }
 {
     match phase {
-        Phase::Value(_) => 1,
-        Phase::Gradient(_) => 2,
-        Phase::Probe(_, _, _) => 1,
-        Phase::Notice => 3,
-        Phase::Ended(_) => 0,
+        Phase::Value(_) | Phase::Probe(_, _, _) => Some(Kind::Value),
+        Phase::Gradient(_) => Some(Kind::Gradient),
+        Phase::Notice => Some(Kind::Notice),
+        Phase::Ended(_) => None,
     }
 }
 
@@ -80,26 +100,7 @@ pub fn question_kind(phase: Phase) -> usize
 pub fn with_phase(fit: Fit, phase: Phase) -> Fit
     ensures { result ≡ with_phase phase fit }
 {
-    let shape = fit.shape;
-    let options = fit.options;
-    let limits = fit.limits;
-    let counters = fit.counters;
-    let search = fit.search;
-    let extra = fit.extra;
-    Fit {
-        shape: shape,
-        options: options,
-        limits: limits,
-        counters: counters,
-        phase: phase,
-        search: search,
-        value: fit.value,
-        trial_value: fit.trial_value,
-        right_value: fit.right_value,
-        value_before: fit.value_before,
-        theta: fit.theta,
-        extra: extra,
-    }
+    Fit { phase, ..fit }
 }
 
 // The fit has ended.
@@ -113,29 +114,32 @@ pub fn ended(fit: Fit, why: Termination) -> Fit
 pub fn ask_value(fit: Fit, phase: Phase) -> Fit
     ensures { Turns (ask_value (phase_of phase)) fit result }
 {
-    let limits = fit.limits;
-    let counters = fit.counters;
-    let charge = counters::value_charged(limits, counters);
-    let Charge::Charged(charged) = charge else {
-        return ended(fit, Termination::MaxEvaluations);
-    };
-    let mut next = with_phase(fit, phase);
-    next.counters = charged;
-    next
+    let mut counters = fit.counters;
+    if counters.charge_value(fit.limits) {
+        Fit {
+            counters,
+            phase,
+            ..fit
+        }
+    } else {
+        ended(fit, Termination::MaxEvaluations)
+    }
 }
 
 // The value at a place: at the start it is held at once.
 pub fn valued(fit: Fit, place: Place, value: f64) -> Fit
     ensures { Turns (valued_of (place_of place) value) fit result }
 {
-    let mut next = fit;
-    next.trial_value = value;
     match place {
-        Place::Start => {
-            next.value = value;
-            next
-        }
-        Place::Trial => next,
+        Place::Start => Fit {
+            value,
+            trial_value: value,
+            ..fit
+        },
+        Place::Trial => Fit {
+            trial_value: value,
+            ..fit
+        },
     }
 }
 
@@ -157,9 +161,6 @@ pub fn counted(fit: Fit, length: usize) -> Fit
     requires { (fit.extra.entries + 1 < usizes) × (fit.extra.words + length < usizes) }
     ensures { result ≡ with_extra (more_kept fit.extra length) fit }
 {
-    let extra = fit.extra;
-    let more = one_more(extra, length);
-    let mut next = fit;
-    next.extra = more;
-    next
+    let extra = one_more(fit.extra, length);
+    Fit { extra, ..fit }
 }

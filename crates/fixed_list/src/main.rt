@@ -3,20 +3,16 @@
 // restored and its replies are taken back one by one; then its setup is opened and each reply given again.
 #![tactic(auto)]
 
-use cases::{Next, after, fetch, fetch_word, is_count, least, size, word};
-use lbfgsb::{Answer, Asked, Fit, Outcome, Reply, Told};
-use record::Parsed;
-use std::io;
+use cases::{fetch, fetch_word, is_count, size, word};
+use lbfgsb::{Fit, Outcome, Refusal, Reply};
 use std::io::Read;
+use std::{fmt, io};
 
 // The bytes of the words that hold one byte more than an input may have.
 const INPUT: usize = 65_544;
 
 // The bytes of a fit's answers at most.
 const ANSWERS: usize = 65_536;
-
-// The refusal of an input that is no record.
-const MALFORMED: usize = 17;
 
 // Added to a question's kind where its point is that of the question before it.
 const SAME_POINT: u64 = 16;
@@ -27,21 +23,29 @@ const QUESTIONS: usize = 128;
 const FIRST: usize = 129;
 
 // What is counted: the cases, those that are equal as refusals and as fits, the questions of these fits, and the cases that differ.
-const CASES: usize = 0;
+#[derive(Clone, Copy, Default)]
+struct Counts {
+    cases: u64,
+    refused: u64,
+    fits: u64,
+    questions: u64,
+    different: u64,
+}
 
-const REFUSED: usize = 1;
+impl fmt::Display for Counts {
+    fn fmt<W: fmt::Write>(&self, f: &mut fmt::Formatter<W>) -> fmt::Result {
+        writeln!(f, "cases {}", self.cases)?;
+        writeln!(f, "refused {}", self.refused)?;
+        writeln!(f, "fits {}", self.fits)?;
+        writeln!(f, "questions {}", self.questions)?;
+        writeln!(f, "different {}", self.different)
+    }
+}
 
-const FITS: usize = 2;
-
-const ASKED: usize = 3;
-
-const DIFFERENT: usize = 4;
-
-// What a case shows: there is none; it is refused as in the list; it is the list's fit, of so many questions; or it differs, with whether
-// it is known where the next one starts.
+// What a case shows: it is refused as in the list; it is the list's fit, of so many questions; or it differs, with whether it is known
+// where the next one starts.
 #[derive(Clone, Copy)]
 enum Verdict {
-    Nothing,
     Refused,
     Fit(u64),
     Different(bool),
@@ -49,29 +53,32 @@ enum Verdict {
 
 // ---- reading a case
 
-// Reads a question to the words of buf from `at` on, and answers the word after it: 0 where it did not come.
-fn fetch_question<F: Read>(file: &mut F, buf: &mut [u8], at: usize, n: usize) -> io::Result<usize> {
+// Reads a question to the words of buf from `at` on, and answers the word after it, where it came.
+fn fetch_question<F: Read>(
+    file: &mut F,
+    buf: &mut [u8],
+    at: usize,
+    n: usize,
+) -> io::Result<Option<usize>> {
     if !fetch(file, buf, at, 1)? {
-        return Ok(0);
+        return Ok(None);
     }
-    let point = after(at, 1);
+    let point = at.wrapping_add(1);
     if word(buf, at) >= SAME_POINT {
-        return Ok(point);
+        return Ok(Some(point));
     }
-    if !fetch(file, buf, point, n)? {
-        return Ok(0);
-    }
-    Ok(after(point, n))
+    let came = fetch(file, buf, point, n)?;
+    Ok(came.then(|| point.wrapping_add(n)))
 }
 
 // Reads so many questions, and answers whether they came.
 fn fetch_all<F: Read>(file: &mut F, buf: &mut [u8], count: usize, n: usize) -> io::Result<bool> {
     let mut at = FIRST;
     for _ in 0..count {
-        at = fetch_question(file, buf, at, n)?;
-        if at == 0 {
+        let Some(next) = fetch_question(file, buf, at, n)? else {
             return Ok(false);
-        }
+        };
+        at = next;
     }
     Ok(true)
 }
@@ -82,11 +89,12 @@ fn fetch_answers<F: Read>(file: &mut F, buf: &mut [u8], n: usize) -> io::Result<
     if !fetch(file, buf, 0, 1)? {
         return Ok(false);
     }
-    let more = if word(buf, 0) == 0 { after(6, n) } else { 0 };
-    if !fetch(file, buf, 1, more)? {
-        return Ok(false);
-    }
-    if !fetch(file, buf, QUESTIONS, 1)? {
+    let more = if word(buf, 0) == 0 {
+        n.wrapping_add(6)
+    } else {
+        0
+    };
+    if !fetch(file, buf, 1, more)? || !fetch(file, buf, QUESTIONS, 1)? {
         return Ok(false);
     }
     let count = size(buf, QUESTIONS);
@@ -96,7 +104,7 @@ fn fetch_answers<F: Read>(file: &mut F, buf: &mut [u8], n: usize) -> io::Result<
 // ---- the report and the questions
 
 fn is_outcome(s: &[u8], o: Outcome, n: usize) -> bool {
-    is_count(s, 1, o.status)
+    is_count(s, 1, o.status())
         && is_count(s, 2, o.nit)
         && is_count(s, 3, o.nfev)
         && is_count(s, 4, o.njev)
@@ -108,12 +116,11 @@ fn is_outcome(s: &[u8], o: Outcome, n: usize) -> bool {
 // Whether the report is the one of the words s: its refusal; status, nit, nfev, njev, value, n and the point.
 fn is_report(s: &[u8], fit: Fit, area: &[f64]) -> bool {
     let mut point = [0.0f64; input::COORDINATES];
-    let told = lbfgsb::report(fit, area, &mut point);
     let n = fit.shape.n;
-    match told {
-        Told::Refused(c) => is_count(s, 0, c.number),
-        Told::Is(o) => {
-            is_count(s, 0, 0) && is_outcome(s, o, n) && cases::are_floats(s, 7, n, &point)
+    match lbfgsb::report(fit, area, &mut point) {
+        Err(refusal) => is_count(s, 0, refusal.number()),
+        Ok(outcome) => {
+            is_count(s, 0, 0) && is_outcome(s, outcome, n) && cases::are_floats(s, 7, n, &point)
         }
     }
 }
@@ -126,32 +133,41 @@ struct Question {
     next: usize,
 }
 
-// The question after q.
-fn next_question(s: &[u8], n: usize, q: Question) -> Question {
-    let mut r = q;
-    r.kind = word(s, q.next);
-    r.next = after(q.next, 1);
-    if r.kind >= SAME_POINT {
-        r.kind = r.kind - SAME_POINT;
-        return r;
+impl Question {
+    // The first question.
+    fn first(s: &[u8], n: usize) -> Self {
+        let before = Question {
+            kind: 0,
+            point: 0,
+            next: FIRST,
+        };
+        before.following(s, n)
     }
-    r.point = r.next;
-    r.next = after(r.next, n);
-    r
+
+    // The question after this one.
+    fn following(self, s: &[u8], n: usize) -> Self {
+        let kind = word(s, self.next);
+        let point = self.next.wrapping_add(1);
+        if kind >= SAME_POINT {
+            return Question {
+                kind: kind - SAME_POINT,
+                next: point,
+                ..self
+            };
+        }
+        Question {
+            kind,
+            point,
+            next: point.wrapping_add(n),
+        }
+    }
 }
 
 // Question k, from 0 the first.
 fn question_at(s: &[u8], n: usize, k: usize) -> Question {
-    let first = Question {
-        kind: 0,
-        point: 0,
-        next: FIRST,
-    };
-    let mut q = next_question(s, n, first);
-    let mut i = 0;
-    while i < k {
-        q = next_question(s, n, q);
-        i += 1;
+    let mut q = Question::first(s, n);
+    for _ in 0..k {
+        q = q.following(s, n);
     }
     q
 }
@@ -162,15 +178,14 @@ fn is_asked(s: &[u8], fit: Fit, area: &[f64], k: usize) -> bool {
         return false;
     }
     let mut point = [0.0f64; input::COORDINATES];
-    let asked = lbfgsb::question(fit, area, &mut point);
     let n = fit.shape.n;
-    match asked {
-        Asked::Refused(_) => false,
-        Asked::Nothing => is_count(s, QUESTIONS, k),
-        Asked::Is(kind) => {
+    match lbfgsb::question(fit, area, &mut point) {
+        Err(_) => false,
+        Ok(None) => is_count(s, QUESTIONS, k),
+        Ok(Some(kind)) => {
             let q = question_at(s, n, k);
             k < size(s, QUESTIONS)
-                && q.kind == kind as u64
+                && q.kind == kind.number() as u64
                 && cases::are_floats(s, q.point, n, &point)
         }
     }
@@ -178,33 +193,18 @@ fn is_asked(s: &[u8], fit: Fit, area: &[f64], k: usize) -> bool {
 
 // Whether after so many replies the fit stands as at the end of the list's answers: no question comes after the open one.
 fn is_last(s: &[u8], fit: Fit, area: &[f64], replies: usize) -> bool {
-    size(s, QUESTIONS) <= after(replies, 1)
+    size(s, QUESTIONS) <= replies.wrapping_add(1)
         && is_asked(s, fit, area, replies)
         && is_report(s, fit, area)
 }
 
 // ---- restored, and the replies taken back
 
-// The state to go on with: where the answer is a refusal, the one that was given.
-fn kept(fit: Fit, answer: Answer) -> Fit {
-    match answer {
-        Answer::Kept(f) => f,
-        Answer::Refused(_) => fit,
-    }
-}
-
-fn back(fit: Fit, area: &mut [f64], log: &mut [u64]) -> Fit {
-    let answer = lbfgsb::take_back(fit, area, log, 1);
-    kept(fit, answer)
-}
-
 // Takes so many replies back, one by one, and compares the question that each opens again.
 fn retraced(s: &[u8], fit: Fit, area: &mut [f64], log: &mut [u64], replies: usize) -> bool {
     let mut f = fit;
-    let mut k = replies;
-    while k > 0 {
-        k -= 1;
-        f = back(f, area, log);
+    for k in (0..replies).rev() {
+        f = lbfgsb::take_back(f, area, log, 1).unwrap_or(f);
         if !is_asked(s, f, area, k) {
             return false;
         }
@@ -216,37 +216,25 @@ fn retraced(s: &[u8], fit: Fit, area: &mut [f64], log: &mut [u64], replies: usiz
 
 // The reply of the entry at word `at` of a record.
 fn reply_at(r: &[u8], at: usize) -> Reply {
-    match word(r, at) {
-        1 => Reply::Value(word(r, after(at, 1))),
-        2 => Reply::Gradient,
-        3 => Reply::NotSupplied,
-        4 => Reply::GoOn,
-        5 => Reply::Stop,
-        _ => Reply::Failure,
-    }
+    Reply::of_kind(word(r, at), word(r, at.wrapping_add(1)))
 }
 
 // The state after the reply of the record's next entry, behind the setup and the entries kept.
 fn forth(r: &[u8], fit: Fit, area: &mut [f64], log: &mut [u64]) -> Fit {
-    let n = least(fit.shape.n, input::COORDINATES);
-    let o = fit.options;
-    let at = after(record::setup_words(o, n), fit.extra.words);
+    let n = fit.shape.n.min(input::COORDINATES);
+    let at = record::setup_words(fit.options, n).wrapping_add(fit.extra.words);
     let mut gradient = [0u64; input::COORDINATES];
-    cases::put_words(&mut gradient, r, after(at, 1));
-    let said = reply_at(r, at);
-    let answer = lbfgsb::reply(fit, area, log, said, &gradient[0..n]);
-    kept(fit, answer)
+    cases::put_words(&mut gradient, r, at.wrapping_add(1));
+    lbfgsb::reply(fit, area, log, reply_at(r, at), &gradient[..n]).unwrap_or(fit)
 }
 
 // Gives so many replies, one by one, and compares the question ahead of each; then what the list ends with.
 fn given(s: &[u8], r: &[u8], fit: Fit, area: &mut [f64], log: &mut [u64], replies: usize) -> bool {
     let mut f = fit;
-    let mut k = 0;
-    while k < replies {
+    for k in 0..replies {
         if !is_asked(s, f, area, k) {
             return false;
         }
-        k += 1;
         f = forth(r, f, area, log);
     }
     is_last(s, f, area, replies)
@@ -254,25 +242,15 @@ fn given(s: &[u8], r: &[u8], fit: Fit, area: &mut [f64], log: &mut [u64], replie
 
 // Opens a fit by the options and vectors of the record in an input, and gives its replies.
 fn reopened(s: &[u8], input: &[u8], area: &mut [f64], log: &mut [u64], replies: usize) -> bool {
-    let parsed = record::check(input, area.len());
-    let Parsed::Setup(o, frame) = parsed else {
+    let Ok(parsed) = record::check(input, area.len()) else {
         return false;
     };
-    let from = least(frame.at, input.len());
-    let r = &input[from..];
-    let n = least(frame.n, input::COORDINATES);
-    let mut v = [0.0f64; 192];
+    let r = &input[parsed.frame.at.min(input.len())..];
+    let n = parsed.frame.n.min(input::COORDINATES);
+    let mut v = [0.0f64; 3 * input::COORDINATES];
     cases::put_floats(&mut v, r, 7);
-    let w = &v[..];
-    let answer = lbfgsb::start(
-        lbfgsb::empty(),
-        area,
-        o,
-        &w[0..n],
-        &w[n..2 * n],
-        &w[2 * n..3 * n],
-    );
-    let Answer::Kept(fit) = answer else {
+    let setup = record::setup_from(parsed.options, &v, n);
+    let Ok(fit) = lbfgsb::start(lbfgsb::empty(), area, setup) else {
         return false;
     };
     given(s, r, fit, area, log, replies)
@@ -283,13 +261,9 @@ fn reopened(s: &[u8], input: &[u8], area: &mut [f64], log: &mut [u64], replies: 
 // Whether the fit restored from an input, and then the one opened, are the list's.
 fn is_fit(s: &[u8], input: &[u8], fit: Fit, area: &mut [f64], log: &mut [u64]) -> bool {
     let replies = lbfgsb::replies(fit, area);
-    if !is_last(s, fit, area, replies) {
-        return false;
-    }
-    if !retraced(s, fit, area, log, replies) {
-        return false;
-    }
-    reopened(s, input, area, log, replies)
+    is_last(s, fit, area, replies)
+        && retraced(s, fit, area, log, replies)
+        && reopened(s, input, area, log, replies)
 }
 
 // An input that is accepted, as in the list, whose answers follow.
@@ -311,8 +285,8 @@ fn accepted<F: Read>(
 }
 
 // An input that is refused. The answers that the list may have instead cannot be passed over: only the fit has their n.
-fn refused(number: usize, refusal: u64) -> Verdict {
-    if number as u64 == refusal {
+fn refused(found: Refusal, refusal: u64) -> Verdict {
+    if found.number() as u64 == refusal {
         return Verdict::Refused;
     }
     Verdict::Different(refusal != 0)
@@ -327,12 +301,11 @@ fn restored<F: Read>(
     log: &mut [u64],
 ) -> io::Result<Verdict> {
     if input.len() > input::MOST {
-        return Ok(refused(MALFORMED, refusal));
+        return Ok(refused(Refusal::Malformed, refusal));
     }
-    let answer = lbfgsb::restore(lbfgsb::empty(), area, log, input);
-    match answer {
-        Answer::Refused(c) => Ok(refused(c.number, refusal)),
-        Answer::Kept(f) => {
+    match lbfgsb::restore(lbfgsb::empty(), area, log, input) {
+        Err(found) => Ok(refused(found, refusal)),
+        Ok(f) => {
             if refusal != 0 {
                 return Ok(Verdict::Different(true));
             }
@@ -341,44 +314,38 @@ fn restored<F: Read>(
     }
 }
 
-// The next case, if there is one: the input's bytes, these in words, the refusal, and the answers.
-fn one_case<F: Read>(
+// The case of an input of so many bytes: these in words, the refusal, and the answers.
+fn case_of<F: Read>(
     file: &mut F,
+    bytes: u64,
     area: &mut [f64],
     log: &mut [u64],
-    counts: &mut [u64],
 ) -> io::Result<Verdict> {
-    let first = fetch_word(file)?;
-    let Next::Is(bytes) = first else {
-        return Ok(Verdict::Nothing);
-    };
-    cases::count(counts, CASES, 1);
-    let mut input = [0u8; INPUT];
+    let mut buffer = [0u8; INPUT];
     let end = bytes as usize;
-    if end > INPUT || !fetch(file, &mut input, 0, (end + 7) / 8)? {
+    if end > INPUT || !fetch(file, &mut buffer, 0, end.div_ceil(8))? {
         return Ok(Verdict::Different(false));
     }
-    let second = fetch_word(file)?;
-    let Next::Is(refusal) = second else {
+    let Some(refusal) = fetch_word(file)? else {
         return Ok(Verdict::Different(false));
     };
-    restored(file, &input[0..end], refusal, area, log)
+    restored(file, &buffer[..end], refusal, area, log)
 }
 
 // ---- the cases in turn
 
 // Counts a case by what it shows, and answers whether there may be another. Where it differs its number is written, from 0 the first.
-fn tallied<R: Print>(rt: &R, counts: &mut [u64], number: u64, v: Verdict) -> io::Result<bool> {
+fn tallied<R: Print>(rt: &R, counts: &mut Counts, number: u64, v: Verdict) -> io::Result<bool> {
+    counts.cases = counts.cases.wrapping_add(1);
     match v {
-        Verdict::Nothing => return Ok(false),
-        Verdict::Refused => cases::count(counts, REFUSED, 1),
+        Verdict::Refused => counts.refused = counts.refused.wrapping_add(1),
         Verdict::Fit(questions) => {
-            cases::count(counts, FITS, 1);
-            cases::count(counts, ASKED, questions);
+            counts.fits = counts.fits.wrapping_add(1);
+            counts.questions = counts.questions.wrapping_add(questions);
         }
         Verdict::Different(more) => {
-            cases::line(rt, "differs: case ", number, "\n")?;
-            cases::count(counts, DIFFERENT, 1);
+            println!(rt; "differs: case {number}")?;
+            counts.different = counts.different.wrapping_add(1);
             return Ok(more);
         }
     }
@@ -391,10 +358,13 @@ fn replay<R: Print, F: Read>(
     file: &mut F,
     area: &mut [f64],
     log: &mut [u64],
-    counts: &mut [u64],
+    counts: &mut Counts,
 ) -> io::Result<()> {
     for number in 0..u64::MAX {
-        let v = one_case(file, area, log, counts)?;
+        let Some(bytes) = fetch_word(file)? else {
+            return Ok(());
+        };
+        let v = case_of(file, bytes, area, log)?;
         if !tallied(rt, counts, number, v)? {
             return Ok(());
         }
@@ -408,11 +378,7 @@ fn main(rt: HostRuntime) -> io::Result<()> {
     };
     let mut area = [0.0f64; input::AREA];
     let mut log = [0u64; input::LOG];
-    let mut counts = [0u64; 5];
+    let mut counts = Counts::default();
     replay(&rt, &mut file, &mut area, &mut log, &mut counts)?;
-    cases::line(&rt, "cases ", counts[CASES], "\n")?;
-    cases::line(&rt, "refused ", counts[REFUSED], "\n")?;
-    cases::line(&rt, "fits ", counts[FITS], "\n")?;
-    cases::line(&rt, "questions ", counts[ASKED], "\n")?;
-    cases::line(&rt, "different ", counts[DIFFERENT], "\n")
+    print!(rt; "{counts}")
 }

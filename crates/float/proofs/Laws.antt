@@ -1,47 +1,98 @@
--- Laws of floats and their words that the proofs of this crate cite: the test for a NaN, the words of NaNs
--- and of magnitudes, the highest word. Assumes nothing.
-use Prim.Native.Nat.{ℕ, zero, suc, ◌+◌, ◌*◌, ◌%◌, ◌<◌, ◌≤◌}
+-- What std says of floats, in the definition's words. Assumes nothing.
+use Prim.Native.Nat.{ℕ, zero, suc, ◌+◌, ◌-◌, ◌/◌, ◌%◌, ◌<◌, ◌≤◌}
 use native.Mathlib.Omega.{arith}
 use mathlib.Core.Path.{◌≡◌, refl, sym, ap, ◌∙◌, subst}
-use mathlib.Core.Bool.{Bool, true, false, not}
-use borrow.Author.Tests.{eq-eqb, lt-ltb, le-ltb, ltb-false}
+use mathlib.Core.Bool.{Bool, true, false, not, cond}
+use lib.Dec.{T, eqb, ltb, leb}
 use lib.IntN.{ℤ}
-use lib.Dec.{T}
-use lib.Ieee.{Float, nan, inf, fin, binary64, up, down, ne, is_nan, fits, nan_bits, to_bits}
-use lib.Ieee.Bits.{nan_bits_is, nan_bits_above, to_bits-lt, of_bits-to_bits}
-use Rattle.definition.specs.Number.{to_float, to_word, sign_bit, infinity_word, neg_infinity_word, abs}
+use lib.Ieee.{Float, nan, inf, fin, binary64, fits, is_nan, neg, of_bits, of_fields, odd, to_bits, hid, ones, prec, low}
+use lib.Ieee.Bits.{of_bits-to_bits, to_bits-lt, nan_bits_above, nan_bits_is, is_true}
+use lib.Ieee.Fits.{neg-fits}
+use borrow.Author.Tests.{ltb-false}
+use lib.Ieee.Scale.{finite}
+use Rattle.std.specs.Float as Std
+use Rattle.std.specs.Float.{float_is_finite, float_with_sign}
+use Rattle.definition.specs.Number.{to_float, to_word, sign_bit, infinity_word, up_bits, down_bits, abs, next_up, next_down}
 
--- ---- the test for a NaN
+pub abs_is : (x : Float) → float_with_sign false x ≡ abs x
+unfolding float_with_sign
+abs_is nan = refl
+abs_is (inf s) = refl
+abs_is (fin s m e) = refl
 
-pub ne_self : (x : Float) → ne x x ≡ is_nan x
-unfolding ne is_nan
-ne_self nan = refl
-ne_self (inf true) = refl
-ne_self (inf false) = refl
-ne_self (fin true m e) = simp (eq-eqb (m * up e * down e) (m * up e * down e) refl)
-ne_self (fin false m e) = simp (eq-eqb (m * up e * down e) (m * up e * down e) refl)
+pub finite_is : (x : Float) → float_is_finite x ≡ finite x
+unfolding float_is_finite
+finite_is nan = refl
+finite_is (inf s) = refl
+finite_is (fin s m e) = refl
 
-is_nan_lem : (x : Float) → is_nan x ≡ true → x ≡ nan
-unfolding is_nan
-is_nan_lem nan h = refl
-is_nan_lem (inf s) h = cc
-is_nan_lem (fin s m e) h = cc
+-- ---- words with the sign's bit
 
-pub nan_of_ne : (x : Float) → ne x x ≡ true → x ≡ nan
-nan_of_ne x h = is_nan_lem x (sym (ne_self x) ∙ h)
+odd_neg : (d : ℕ) (s : Bool) (q k l : ℕ) → odd d (not s) q k l ≡ neg (odd d s q k l)
+unfolding odd neg
+odd_neg d s zero k l = refl
+odd_neg d s (suc q) k l = refl
 
-pub not_nan_of_eq : (x : Float) → ne x x ≡ false → T (not (is_nan x))
-not_nan_of_eq x h = subst (λ (t : Bool). T (not t)) (sym h ∙ ne_self x) tt
+fields_neg : (s : Bool) (x t : ℕ) → of_fields binary64 (not s) x t ≡ neg (of_fields binary64 s x t)
+unfolding of_fields neg
+fields_neg s zero t = odd_neg (prec binary64) s t 0 (low binary64)
+fields_neg s (suc x) t = go (eqb (suc x) (ones binary64)) (eqb t 0)
+  where
+    go : (p q : Bool) → cond p (cond q (inf (not s)) nan) (odd (prec binary64) (not s) (hid binary64 + t) x (low binary64))
+        ≡ neg (cond p (cond q (inf s) nan) (odd (prec binary64) s (hid binary64 + t) x (low binary64)))
+    go true true = refl
+    go true false = refl
+    go false q = odd_neg (prec binary64) s (hid binary64 + t) x (low binary64)
 
--- ---- words
+float_of_signed : (w : ℕ) → w < sign_bit → to_float (sign_bit + w) ≡ neg (to_float w)
+unfolding of_bits
+float_of_signed w h =
+    let e : (sign_bit + w) % sign_bit ≡ w % sign_bit = omega arith in
+    let d : (sign_bit + w) % hid binary64 ≡ w % hid binary64 = omega arith in
+    let t : leb sign_bit (sign_bit + w) ≡ true = grind arith in
+    let f : leb sign_bit w ≡ false = grind arith in
+    simp (e, d, t, f) (fields_neg false (w % sign_bit / hid binary64) (w % hid binary64))
 
-pub nan_of_word : (w : ℕ) → infinity_word < w % sign_bit → to_float w ≡ nan
-nan_of_word w h = is_nan_lem (to_float w) (sym (nan_bits_is binary64 w) ∙ nan_bits_above binary64 w ∙ lt-ltb _ _ h)
+-- ---- neighbours
 
-pub not_nan_of_word : (w : ℕ) → w % sign_bit ≤ infinity_word → T (not (nan_bits binary64 w))
-not_nan_of_word w h = subst (λ (t : Bool). T (not t)) (sym (nan_bits_above binary64 w ∙ le-ltb _ _ h)) tt
+pub up_is : (x : Float) → fits binary64 x ≡ true → Std.next_up binary64 x ≡ next_up x
+up_is x h =
+    let r : to_float (to_word x) ≡ x = of_bits-to_bits binary64 x (subst T (sym h) tt) in
+    let s : eqb (to_word x) (to_word x % sign_bit) ≡ ltb (to_word x) sign_bit = grind arith in
+    simp s (go (eqb (to_word x) infinity_word) (eqb (to_word x % sign_bit) 0) (ltb (to_word x) sign_bit) r)
+  where
+    go : (p q s : Bool) → to_float (to_word x) ≡ x → cond (is_nan x) x (cond p x (cond q (to_float 1) (cond s (to_float (to_word x + 1)) (to_float (to_word x - 1)))))
+        ≡ cond (is_nan x) x (to_float (cond p (to_word x) (cond q 1 (cond s (to_word x + 1) (to_word x - 1)))))
+    go true q s r = rw r
+    go false true s r = refl
+    go false false true r = refl
+    go false false false r = refl
 
--- Without its sign's bit a word is that of the magnitude.
+-- below a number is what is above its negative, negated
+neg_neg : (x : Float) → neg (neg x) ≡ x
+unfolding neg
+neg_neg nan = refl
+neg_neg (inf true) = refl
+neg_neg (inf false) = refl
+neg_neg (fin true m e) = refl
+neg_neg (fin false m e) = refl
+
+up_in : (w : ℕ) → w ≤ infinity_word → up_bits w < sign_bit
+up_in w h = grind arith
+
+down_signed : (w : ℕ) → w ≤ infinity_word → down_bits (sign_bit + w) ≡ sign_bit + up_bits w
+down_signed w h = grind arith
+
+down_signed_float : (w : ℕ) → w ≤ infinity_word → to_float (down_bits (sign_bit + w)) ≡ neg (to_float (up_bits w))
+down_signed_float w h = rw (down_signed w h) (float_of_signed (up_bits w) (up_in w h))
+
+down_float : (w : ℕ) → w ≤ infinity_word → to_float (down_bits w) ≡ neg (to_float (up_bits (sign_bit + w)))
+down_float zero h = float_of_signed 1 (omega arith)
+down_float (suc w) h =
+    let d : down_bits (suc w) ≡ w = grind arith in
+    let u : up_bits (sign_bit + suc w) ≡ sign_bit + w = grind arith in
+    rw (d, u, float_of_signed w (omega arith), neg_neg) refl
+
 word_of_negative : (m : ℕ) (e : ℤ) → to_word (fin true m e) ≡ sign_bit + to_word (fin false m e)
 unfolding to_bits
 word_of_negative m e = omega arith
@@ -51,37 +102,31 @@ unfolding fits
 sign_fits s t zero e h = h
 sign_fits s t (suc m) e h = h
 
-word_of_abs : (x : Float) → T (fits binary64 x) → to_word x % sign_bit ≡ to_word (abs x)
-unfolding to_bits
-word_of_abs nan h = refl
-word_of_abs (inf true) h = refl
-word_of_abs (inf false) h = refl
-word_of_abs (fin s m e) h = go s (word_of_negative m e) (to_bits-lt binary64 (fin true m e) (sign_fits s true m e h))
-  where
-    go : (s : Bool) → to_word (fin true m e) ≡ sign_bit + to_word (fin false m e) → to_word (fin true m e) < 0x1_0000_0000_0000_0000
-        → to_word (fin s m e) % sign_bit ≡ to_word (fin false m e)
-    go true h k = omega arith
-    go false h k = omega arith
+word_in : (m : ℕ) (e : ℤ) → T (fits binary64 (fin false m e)) → to_word (fin false m e) ≤ infinity_word
+unfolding is_nan
+word_in m e h =
+    let w = to_word (fin false m e) in
+    let n : is_nan (to_float w) ≡ false = ap is_nan (of_bits-to_bits binary64 (fin false m e) h) in
+    let l : w % sign_bit ≤ infinity_word = ltb-false _ _ (sym (nan_bits_above binary64 w) ∙ nan_bits_is binary64 w ∙ n) in
+    omega (arith, to_bits-lt binary64 (fin true m e) (sign_fits false true m e h), word_of_negative m e)
 
-abs_fits : (x : Float) → T (fits binary64 x) → T (fits binary64 (abs x))
-unfolding fits
-abs_fits nan h = h
-abs_fits (inf s) h = tt
-abs_fits (fin s m e) h = sign_fits s false m e h
+below_negative : (m : ℕ) (e : ℤ) → T (fits binary64 (fin false m e)) → neg (next_up (fin false m e)) ≡ next_down (fin true m e)
+unfolding is_nan
+below_negative m e h = rw (word_of_negative, down_signed_float (to_word (fin false m e)) (word_in m e h)) refl
 
-pub abs_of_word : (x : Float) → fits binary64 x ≡ true → to_float (to_word x % sign_bit) ≡ abs x
-abs_of_word x h = let f = subst T (sym h) tt in rw (word_of_abs x f) (of_bits-to_bits binary64 (abs x) (abs_fits x f))
+below_positive : (m : ℕ) (e : ℤ) → T (fits binary64 (fin false m e)) → neg (next_up (fin true m e)) ≡ next_down (fin false m e)
+unfolding is_nan
+below_positive m e h = rw (word_of_negative, down_float (to_word (fin false m e)) (word_in m e h)) refl
 
--- No word is above the negative infinity's.
-number_word_most : (x : Float) → fits binary64 x ≡ true → is_nan x ≡ false → to_word x ≤ neg_infinity_word
-number_word_most x h k =
+below_is : (x : Float) → T (fits binary64 x) → neg (next_up (neg x)) ≡ next_down x
+unfolding neg is_nan to_bits of_bits
+below_is nan h = refl
+below_is (inf true) h = refl
+below_is (inf false) h = refl
+below_is (fin true m e) h = below_negative m e (sign_fits true false m e h)
+below_is (fin false m e) h = below_positive m e h
+
+pub down_is : (x : Float) → fits binary64 x ≡ true → Std.next_down binary64 x ≡ next_down x
+down_is x h =
     let f = subst T (sym h) tt in
-    let e : is_nan (to_float (to_word x)) ≡ false = ap is_nan (of_bits-to_bits binary64 x f) ∙ k in
-    let l : to_word x % sign_bit ≤ infinity_word = ltb-false _ _ (sym (nan_bits_above binary64 (to_word x)) ∙ nan_bits_is binary64 (to_word x) ∙ e) in
-    omega (arith, to_bits-lt binary64 x f)
-
-pub word_most : (x : Float) → fits binary64 x ≡ true → to_word x ≤ neg_infinity_word
-unfolding is_nan to_bits
-word_most nan h = omega arith
-word_most (inf s) h = number_word_most (inf s) h refl
-word_most (fin s m e) h = number_word_most (fin s m e) h refl
+    rw (up_is (neg x) (is_true _ (neg-fits binary64 x f))) (below_is x f)

@@ -7,11 +7,13 @@ ghost use Rattle.std.specs.Float.Ieee.Scale.{finite};
 ghost use Rattle.definition.specs.Number.{to_float, to_word, total_key, total_le, up_bits, down_bits, next_up, next_down, neg_infinity};
 ghost use Rattle.definition.specs.Number.{infinity as infinity_of, abs as abs_of, min as min_of, max as max_of, clamp as clamp_of};
 
+use std::num::{f64_from_bits_with_nan, f64_to_bits_with_nan};
+
 // Where a sum starts: added to any term it leaves the term as it is.
 pub const NEG_ZERO: f64 = -0.0;
 
 // 2^-52, the step from 1.0 to the next float.
-pub const EPSILON: f64 = 2.220446049250313e-16;
+pub const EPSILON: f64 = f64::EPSILON;
 
 // Its square root, 2^-26: the step of forward differences.
 pub const ROOT_EPSILON: f64 = 1.4901161193847656e-8;
@@ -35,88 +37,80 @@ pub const C2: f64 = 0.9;
 // Where the limit of a step starts.
 pub const STEP_LIMIT: f64 = 1e10;
 
-// The words of the infinities, and the sign's bit.
-const INFINITY_WORD: u64 = 0x7FF0_0000_0000_0000;
-
-const NEG_INFINITY_WORD: u64 = 0xFFF0_0000_0000_0000;
-
+// The sign's bit.
 const SIGN_BIT: u64 = 0x8000_0000_0000_0000;
 
-// No constant may hold an infinity: these two are functions.
+// The two infinities of the definition: these contracts tie std's to them, once for every caller.
 pub fn infinity() -> f64
     ensures { result ≡ infinity_of }
 {
-    1.0 / 0.0
+    f64::INFINITY
 }
 
 pub fn neg_infinity() -> f64
     ensures { result ≡ neg_infinity }
 {
-    -1.0 / 0.0
+    f64::NEG_INFINITY
 }
 
-// A NaN alone differs from itself.
 pub fn is_nan(x: f64) -> bool
     ensures { result ≡ is_nan x }
 {
-    x != x
+    x.is_nan()
 }
 
-// The float of any word. `from_bits` is not defined at the words of NaNs.
+// The float of any word.
 pub fn word_to_float(word: u64) -> f64
     ensures { result ≡ to_float word }
 {
-    if INFINITY_WORD < word % SIGN_BIT {
-        return 0.0 / 0.0;
-    }
-    f64::from_bits(word)
+    f64_from_bits_with_nan(word)
 }
 
-// The word of any float: one word for every NaN, where `to_bits` is not defined.
+// The word of any float: one word for every NaN.
 pub fn float_to_word(x: f64) -> u64
     ensures { result ≡ to_word x }
 {
-    if x != x {
-        return 0x7FF8_0000_0000_0000;
-    }
-    f64::to_bits(x)
+    f64_to_bits_with_nan(x)
 }
 
-// The magnitude: the word without its sign's bit.
 pub fn abs(x: f64) -> f64
     ensures { result ≡ abs_of x }
 {
-    word_to_float(float_to_word(x) % SIGN_BIT)
+    x.abs()
 }
 
-// Neither a NaN nor an infinity.
 pub fn is_finite(x: f64) -> bool
     ensures { result ≡ finite x }
 {
-    abs(x) < infinity()
+    x.is_finite()
 }
 
 // The smaller of two: a NaN is passed over, and of equal values the first is taken.
+// Kept: `f64::min` leaves open which of 0.0 and -0.0 it answers.
 pub fn min(first: f64, second: f64) -> f64
     ensures { result ≡ min_of first second }
 {
-    if first != first {
-        return second;
+    if first.is_nan() || second < first {
+        second
+    } else {
+        first
     }
-    if second < first { second } else { first }
 }
 
 // The larger of two, by the same rules.
+// Kept: `f64::max` leaves open which of 0.0 and -0.0 it answers.
 pub fn max(first: f64, second: f64) -> f64
     ensures { result ≡ max_of first second }
 {
-    if first != first {
-        return second;
+    if first.is_nan() || first < second {
+        second
+    } else {
+        first
     }
-    if first < second { second } else { first }
 }
 
 // x, brought between low and high. A NaN stays.
+// Kept: `f64::clamp` requires that low is at most high.
 pub fn clamp(x: f64, low: f64, high: f64) -> f64
     ensures { result ≡ clamp_of x low high }
 {
@@ -126,52 +120,18 @@ pub fn clamp(x: f64, low: f64, high: f64) -> f64
     if high < x { high } else { x }
 }
 
-// The word of the next float above x: an infinity stays, a zero goes to the least positive word, negative words count down.
-fn word_above(x: f64) -> u64
-    ensures { result ≡ up_bits (to_word x) }
-{
-    let word = float_to_word(x);
-    if word == INFINITY_WORD {
-        return word;
-    }
-    if word % SIGN_BIT == 0 {
-        return 1;
-    }
-    if word < SIGN_BIT { word + 1 } else { word - 1 }
-}
-
-// The word of the next float below x.
-fn word_below(x: f64) -> u64
-    ensures { result ≡ down_bits (to_word x) }
-{
-    let word = float_to_word(x);
-    if word == NEG_INFINITY_WORD {
-        return word;
-    }
-    if word % SIGN_BIT == 0 {
-        return SIGN_BIT + 1;
-    }
-    if word < SIGN_BIT { word - 1 } else { word + 1 }
-}
-
 // The next float above. A NaN stays.
 pub fn next_up(x: f64) -> f64
     ensures { result ≡ next_up x }
 {
-    if x != x {
-        return x;
-    }
-    word_to_float(word_above(x))
+    x.next_up()
 }
 
 // The next float below. A NaN stays.
 pub fn next_down(x: f64) -> f64
     ensures { result ≡ next_down x }
 {
-    if x != x {
-        return x;
-    }
-    word_to_float(word_below(x))
+    x.next_down()
 }
 
 // A number that stands in the order of `total_cmp`.
@@ -187,6 +147,7 @@ fn total_key(x: f64) -> u64
 }
 
 // Whether the first stands before the second, or level with it, in the order of `total_cmp`.
+// Kept: `f64::total_cmp` requires that neither is a NaN.
 pub fn total_le(first: f64, second: f64) -> bool
     ensures { result ≡ total_le first second }
 {

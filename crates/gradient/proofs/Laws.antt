@@ -1,31 +1,14 @@
--- What is probed where one side at most can be taken; and for callers the step and the probes of a coordinate under the terms of a fit. Assumes nothing.
+-- For callers, the step and the probes of a coordinate under the terms of a fit. Assumes nothing.
 use Prim.Native.Nat.{ℕ, ◌+◌, ◌*◌, ◌<◌}
 use mathlib.Core.Path.{◌≡◌, refl}
-use mathlib.Core.Bool.{true, false}
 use mathlib.Core.List.{List}
 use lib.Ieee.{Float}
 use Rattle.definition.specs.Vector.{word}
-use Rattle.definition.specs.Problem.{Terms, Scheme, forward, central}
-use Rattle.definition.specs.Gradient.{neither, right_only, left_only, difference_step, probes, probes_between, probes_at}
+use Rattle.definition.specs.Problem.{Terms}
+use Rattle.definition.specs.Gradient.{difference_step, probes_between, probes_at}
 use Rattle.area.specs.Area.{view, vector_trial, vector_lower, vector_upper}
 use Rattle.area.proofs.Laws.{word-view}
 use Rattle.gradient.specs.Probing.{step_for, probes_for}
-
--- ---- the scheme does not count where one side at most can be taken
-
-pub no_side : (s : Scheme) (r l : Float) → neither ≡ probes false false s r l
-no_side forward r l = refl
-no_side central r l = refl
-
-pub left_side : (s : Scheme) (r l : Float) → left_only l ≡ probes false true s r l
-left_side forward r l = refl
-left_side central r l = refl
-
-pub right_side_lem : (s : Scheme) (r l : Float) → right_only r ≡ probes true false s r l
-right_side_lem forward r l = refl
-right_side_lem central r l = refl
-
--- ---- for callers
 
 pub step_for_lem : (t : Terms) (i : ℕ) (x : Float) → step_for t.eps t.scheme x ≡ difference_step t i x
 step_for_lem t i x = refl

@@ -1,6 +1,6 @@
 -- What is probed of a coordinate, by its difference step and scheme alone.
 use Rattle.std.specs.Prelude.{cond, Float}
-use Rattle.std.proofs.Math.Option.{Option}
+use Rattle.std.specs.Prelude.{Option}
 use Rattle.std.specs.Float.Ieee as Ieee
 use Rattle.definition.specs.Number.{times, abs, max, one64}
 use Rattle.definition.specs.Problem as P

@@ -16,43 +16,25 @@ use problem::Limits;
 fn shape_held(shape: Shape, size: usize) -> bool
     ensures { result ≡ shape_held shape size }
 {
-    if shape.n == 0 {
-        return false;
-    }
-    if problem::MOST_COORDINATES < shape.n {
-        return false;
-    }
-    if shape.m == 0 {
-        return false;
-    }
-    if problem::MOST_PAIRS < shape.m {
-        return false;
-    }
-    if shape.m < shape.pairs {
-        return false;
-    }
-    if shape.m <= shape.oldest {
-        return false;
-    }
-    area::words(shape.n, shape.m) <= size
+    0 < shape.n
+        && shape.n <= problem::MOST_COORDINATES
+        && 0 < shape.m
+        && shape.m <= problem::MOST_PAIRS
+        && shape.pairs <= shape.m
+        && shape.oldest < shape.m
+        && area::words(shape.n, shape.m) <= size
 }
 
 fn counts_held(counters: Counters) -> bool
     ensures { result ≡ counts_held counters }
 {
-    if counters::MOST_COUNTED <= counters.nit {
-        return false;
-    }
-    counters.njev < counters::MOST_COUNTED
+    counters.nit < counters::MOST_COUNTED && counters.njev < counters::MOST_COUNTED
 }
 
 fn log_held(entries: usize, words: usize) -> bool
     ensures { result ≡ log_held entries words }
 {
-    if fit::MOST_WORDS <= entries {
-        return false;
-    }
-    words < fit::MOST_WORDS
+    entries < fit::MOST_WORDS && words < fit::MOST_WORDS
 }
 
 // A probe is of a coordinate that there is.
@@ -60,35 +42,21 @@ fn phase_held(phase: Phase, n: usize) -> bool
     ensures { result ≡ phase_held phase n }
 {
     match phase {
-        Phase::Value(_) => true,
-        Phase::Gradient(_) => true,
         Phase::Probe(_, i, _) => i < n,
-        Phase::Notice => true,
-        Phase::Ended(_) => true,
+        _ => true,
     }
 }
 
 // Whether a state can be advanced with an area of `size` words, for any words at all.
+#[tactic(auto, unfolding(crate::specs::Test::is_ready))]
 pub fn is_ready(fit: Fit, size: usize) -> bool
     ensures { result ≡ is_ready fit size }
 {
-    let shape = fit.shape;
-    if !shape_held(shape, size) {
-        return false;
-    }
-    let options = fit.options;
-    if problem::places(options) != shape.m {
-        return false;
-    }
-    let counters = fit.counters;
-    if !counts_held(counters) {
-        return false;
-    }
-    if !log_held(fit.extra.entries, fit.extra.words) {
-        return false;
-    }
-    let phase = fit.phase;
-    phase_held(phase, shape.n)
+    shape_held(fit.shape, size)
+        && fit.options.places() == fit.shape.m
+        && counts_held(fit.counters)
+        && log_held(fit.extra.entries, fit.extra.words)
+        && phase_held(fit.phase, fit.shape.n)
 }
 
 // Where the mark stands: behind the vectors.
@@ -100,15 +68,11 @@ fn mark_at(shape: Shape) -> usize
 }
 
 // Whether state and area hold a fit, for any words at all: the mark behind the vectors is 1, which no area of zeros has.
+#[tactic(auto, unfolding(crate::specs::Test::is_held))]
 pub fn is_held(fit: Fit, area: &[f64]) -> bool
     ensures { result ≡ is_held fit area.now }
 {
-    if !is_ready(fit, area.len()) {
-        return false;
-    }
-    let shape = fit.shape;
-    let at = mark_at(shape);
-    area[at] == 1.0
+    is_ready(fit, area.len()) && area[mark_at(fit.shape)] == 1.0
 }
 
 // Marks the area as holding a fit.
@@ -116,8 +80,7 @@ pub fn mark(area: &mut [f64], shape: Shape)
     requires { shape_held shape (length area.old) ≡ true }
     ensures { Marks shape area.old area.new }
 {
-    let at = mark_at(shape);
-    area[at] = 1.0;
+    area[mark_at(shape)] = 1.0;
 }
 
 // ---- the state that holds no fit
@@ -135,26 +98,20 @@ fn no_limits() -> Limits {
 pub fn empty() -> Fit
     ensures { (a : List Float) → is_held result a ≡ false }
 {
-    let shape = Shape {
-        n: 0,
-        m: 0,
-        pairs: 0,
-        oldest: 0,
-    };
-    let counters = Counters {
-        nit: 0,
-        nfev: 0,
-        njev: 0,
-    };
-    let extra = Extra {
-        entries: 0,
-        words: 0,
-    };
     Fit {
-        shape: shape,
+        shape: Shape {
+            n: 0,
+            m: 0,
+            pairs: 0,
+            oldest: 0,
+        },
         options: problem::no_options(),
         limits: no_limits(),
-        counters: counters,
+        counters: Counters {
+            nit: 0,
+            nfev: 0,
+            njev: 0,
+        },
         phase: Phase::Notice,
         search: search::no_search(),
         value: 0.0,
@@ -162,6 +119,9 @@ pub fn empty() -> Fit
         right_value: 0.0,
         value_before: 0.0,
         theta: 0.0,
-        extra: extra,
+        extra: Extra {
+            entries: 0,
+            words: 0,
+        },
     }
 }

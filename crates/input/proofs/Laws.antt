@@ -6,6 +6,7 @@ use mathlib.Core.List.{List}
 use borrow.Author.Tests.{lt-ltb, le-ltb}
 use lib.ListN.{length}
 use lib.Ieee.{Float}
+use Rattle.std.specs.Prelude.{Result, Ok, Err}
 use Rattle.definition.specs.Record.{Lengths, Reading, plain_refusal, read_record}
 use Rattle.definition.specs.History.{restored_answer}
 use Rattle.definition.specs.Programs.{most_bytes, input_area, input_log, read_input}
@@ -16,8 +17,6 @@ use Rattle.fit.specs.declared.Fit.{Fit}
 use Rattle.lbfgsb.specs.Words.{Words, words, lengths}
 use Rattle.lbfgsb.specs.Bridge.{next, kept}
 use Rattle.lbfgsb.specs.Did.{Restores, Restored}
-use Rattle.lbfgsb.specs.declared.Answer.{Answer}
-use Rattle.lbfgsb.specs.declared.Answer.TheVariants as A
 use Rattle.input.specs.Input.{Taken}
 
 -- ---- an input too long
@@ -27,19 +26,19 @@ unfolding read_input
 read_long bs h = rw (lt-ltb most_bytes (length bs) h)
 
 pub taken_long : (bs : List ℕ) (c : Refusal) (a : List Float) (l : List ℕ) → most_bytes < length bs → refusal_of c ≡ plain_refusal 17
-    → Taken (read_input bs) (A.Refused c) a l
+    → Taken (read_input bs) (Err c) a l
 taken_long bs c a l h e = rw (read_long bs h) e
 
 -- ---- one that is restored
 
-restored_taken : (d : Reading) (f : Fit) (r : Answer) (w : Words) (a : List Float) (l : List ℕ) → kept r ≡ restored_answer d
+restored_taken : (d : Reading) (f : Fit) (r : Result Fit Refusal) (w : Words) (a : List Float) (l : List ℕ) → kept r ≡ restored_answer d
     → Restores d w (words (next f r) a l) → Taken d r a l
-restored_taken (Reading.accepted b) f (A.Kept g) w a l e h = h.held
-restored_taken (Reading.accepted b) f (A.Refused c) w a l e h = let z : ◌≡◌ {A = ℕ} 0 1 = cc in omega arith
-restored_taken (Reading.refused k) f (A.Kept g) w a l e h = let z : ◌≡◌ {A = ℕ} 0 1 = cc in omega arith
-restored_taken (Reading.refused k) f (A.Refused c) w a l e h = cc
-restored_taken (Reading.refused_at_entry k) f (A.Kept g) w a l e h = let z : ◌≡◌ {A = ℕ} 0 1 = cc in omega arith
-restored_taken (Reading.refused_at_entry k) f (A.Refused c) w a l e h = cc
+restored_taken (Reading.accepted b) f (Ok g) w a l e h = h.held
+restored_taken (Reading.accepted b) f (Err c) w a l e h = let z : ◌≡◌ {A = ℕ} 0 1 = cc in omega arith
+restored_taken (Reading.refused k) f (Ok g) w a l e h = let z : ◌≡◌ {A = ℕ} 0 1 = cc in omega arith
+restored_taken (Reading.refused k) f (Err c) w a l e h = cc
+restored_taken (Reading.refused_at_entry k) f (Ok g) w a l e h = let z : ◌≡◌ {A = ℕ} 0 1 = cc in omega arith
+restored_taken (Reading.refused_at_entry k) f (Err c) w a l e h = cc
 
 read_short : (bs : List ℕ) (z : Lengths) → length bs ≤ most_bytes → z.area ≡ input_area → z.log ≡ input_log → read_input bs ≡ read_record z bs
 unfolding read_input
@@ -47,7 +46,7 @@ read_short bs z h a l =
     let same : ◌≡◌ {A = Lengths} z (record { area = input_area; log = input_log }) = ap₂ (λ (x y : ℕ). record { area = x; log = y }) a l in
     rw (le-ltb most_bytes (length bs) h) (sym (read_plenty bs h) ∙ ap (λ (x : Lengths). read_record x bs) (sym same))
 
-pub taken_restored : (bs : List ℕ) (f : Fit) (r : Answer) (a : List Float) (l : List ℕ) (a' : List Float) (l' : List ℕ)
+pub taken_restored : (bs : List ℕ) (f : Fit) (r : Result Fit Refusal) (a : List Float) (l : List ℕ) (a' : List Float) (l' : List ℕ)
     → length bs ≤ most_bytes → length a ≡ input_area → length l ≡ input_log → Restored bs (words f a l) (words (next f r) a' l') (kept r)
     → Taken (read_input bs) r a' l'
 taken_restored bs f r a l a' l' h n k d =

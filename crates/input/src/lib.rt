@@ -5,7 +5,7 @@ ghost use Rattle.std.specs.Prelude.{◌≡◌, length};
 ghost use Rattle.definition.specs.Programs.{input_area, input_log, read_input};
 ghost use Rattle.input.specs.Input.{Taken};
 
-use lbfgsb::{Answer, Refusal};
+use lbfgsb::{Fit, Refusal};
 
 // The most coordinates of an input.
 pub const COORDINATES: usize = 64;
@@ -20,17 +20,12 @@ pub const LOG: usize = 8192;
 pub const MOST: usize = 65536;
 
 // The fit of an input, in an area and a log of just these lengths; over 65,536 bytes is 17, checked first.
-pub fn read(area: &mut [f64], log: &mut [u64], input: &[u8]) -> Answer
+pub fn read(area: &mut [f64], log: &mut [u64], input: &[u8]) -> Result<Fit, Refusal>
     requires { (length area.old ≡ input_area) × (length log.old ≡ input_log) }
     ensures { Taken (read_input input.now) result area.new log.new }
 {
     if MOST < input.len() {
-        let c = Refusal {
-            number: 17,
-            first: 0,
-            second: 0,
-        };
-        return Answer::Refused(c);
+        return Err(Refusal::Malformed);
     }
     lbfgsb::restore(lbfgsb::empty(), area, log, input)
 }

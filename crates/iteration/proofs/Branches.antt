@@ -1,23 +1,26 @@
 -- Laws of the branches of a search's start, over plain variables. Assumes nothing.
-use mathlib.Core.Path.{◌≡◌, sym, ap, ◌∙◌}
+use mathlib.Core.Path.{◌≡◌, refl, sym, ap, ◌∙◌}
+use Rattle.std.specs.Prelude.{Option, None, Some, option_map}
 use Rattle.definition.specs.Counters.{Termination}
-use Rattle.definition.specs.Search.{Verdict, begin_search, or_failed}
+use Rattle.definition.specs.Search as S
+use Rattle.definition.specs.Search.{begin_search, or_failed}
 use Rattle.definition.specs.Machine.{Machine, ending}
-use Rattle.definition.specs.Driver.{by_verdict, search_along}
-use Rattle.search.specs.State.{verdict_of}
+use Rattle.definition.specs.Driver.{by_verdict, search_along, try_step}
+use Rattle.search.specs.State.{search_of}
 use Rattle.search.specs.declared.Search.{Search}
-use Rattle.search.specs.declared.Verdict as code
-use Rattle.search.proofs.Laws.{start_failed}
 
 -- ---- along the direction, by what the start hands back
 
-pub along : (m : Machine) {r v : Verdict}
-    → r ≡ or_failed (begin_search m.terms.n m.terms.bounds m.held.x m.held.g m.direction) → r ≡ v → by_verdict m v ≡ search_along m
-unfolding search_along
-along m e f = ap (by_verdict m) (sym f ∙ e)
+module _ (m : Machine) where
+  abbrev begun : Option S.Search
+  begun = begin_search m.terms.n m.terms.bounds m.held.x m.held.g m.direction
 
-pub along_failed : (m : Machine) (r : code.Verdict) → ((s : Search) → r ≡ code.TheVariants.Another s → ⊥)
-    → verdict_of r ≡ or_failed (begin_search m.terms.n m.terms.bounds m.held.x m.held.g m.direction)
-    → ending Termination.line_search_failed m ≡ search_along m
-along_failed m r h e =
-    along m e (start_failed r (begin_search m.terms.n m.terms.bounds m.held.x m.held.g m.direction) h e)
+  pub along : (r : Option Search) (s : Search) → option_map search_of r ≡ begun → r ≡ Some s → try_step (search_of s) m ≡ search_along m
+  unfolding search_along
+  along r s e f = ap (λ (o : Option S.Search). by_verdict m (or_failed o)) (sym (ap (option_map search_of) f) ∙ e)
+
+  pub along_failed : (r : Option Search) → ((s : Search) → r ≡ Some s → ⊥) → option_map search_of r ≡ begun
+      → ending Termination.line_search_failed m ≡ search_along m
+  unfolding search_along
+  along_failed None h e = ap (λ (o : Option S.Search). by_verdict m (or_failed o)) e
+  along_failed (Some s) h e = absurd (h s refl)

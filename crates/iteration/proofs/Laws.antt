@@ -2,7 +2,7 @@
 use mathlib.Core.Path.{◌≡◌, refl, sym, ap, ◌∙◌}
 use mathlib.Core.Bool.{Bool, true, false}
 use mathlib.Core.List.{List}
-use mathlib.Core.Option.{Option, none, some}
+use Rattle.std.specs.Prelude.{Option, None, Some}
 use Prim.Native.Nat.{ℕ, ◌<◌}
 use native.Mathlib.Omega.{arith}
 use borrow.Author.Tests.{ne_eqb}
@@ -92,32 +92,32 @@ from_point {h} {size} {theta} {a} {b} {d} s k p o m =
       kept = kept_scratch kd m.kept;
     }
 
-some_ends : (v : Vecs) {F : Option Ends} {ok : Bool} → ok ≡ true → ends_where ok v ≡ F → F ≡ some (ends_in v)
+some_ends : (v : Vecs) {F : Option Ends} {ok : Bool} → ok ≡ true → ends_where ok v ≡ F → F ≡ Some (ends_in v)
 some_ends v o e = sym e ∙ ap (λ (ok : Bool). ends_where ok v) o
 
-no_ends : (v : Vecs) {F : Option Ends} {ok : Bool} → ok ≡ false → ends_where ok v ≡ F → F ≡ none
+no_ends : (v : Vecs) {F : Option Ends} {ok : Bool} → ok ≡ false → ends_where ok v ≡ F → F ≡ None
 no_ends v o e = sym e ∙ ap (λ (ok : Bool). ends_where ok v) o
 
 -- ---- the definition's branches
 
 module _ (m : Machine) where
-  by_ends : {e : Ends} → ends_of m.terms m.compact m.held ≡ some e → towards e m ≡ descend m
+  by_ends : {e : Ends} → ends_of m.terms m.compact m.held ≡ Some e → towards e m ≡ descend m
   unfolding descend
   by_ends e = rw e
 
-  by_failure : ends_of m.terms m.compact m.held ≡ none → count m.compact ≡ 0 → ending Termination.line_search_failed m ≡ descend m
+  by_failure : ends_of m.terms m.compact m.held ≡ None → count m.compact ≡ 0 → ending Termination.line_search_failed m ≡ descend m
   unfolding descend
   by_failure e z = rw (e, z)
 
-  by_retry : ends_of m.terms m.compact m.held ≡ none → (count m.compact ≡ 0 → ⊥) → without_pairs m ≡ descend m
+  by_retry : ends_of m.terms m.compact m.held ≡ None → (count m.compact ≡ 0 → ⊥) → without_pairs m ≡ descend m
   unfolding descend
   by_retry e z = rw (e, ne_eqb (count m.compact) 0 z)
 
-  retry_ends : {e : Ends} → ends_of m.terms no_pairs m.held ≡ some e → towards e (with_compact no_pairs m) ≡ without_pairs m
+  retry_ends : {e : Ends} → ends_of m.terms no_pairs m.held ≡ Some e → towards e (with_compact no_pairs m) ≡ without_pairs m
   unfolding without_pairs
   retry_ends e = rw e
 
-  retry_failure : ends_of m.terms no_pairs m.held ≡ none → ending Termination.line_search_failed (with_compact no_pairs m) ≡ without_pairs m
+  retry_failure : ends_of m.terms no_pairs m.held ≡ None → ending Termination.line_search_failed (with_compact no_pairs m) ≡ without_pairs m
   unfolding without_pairs
   retry_failure e = rw e
 

@@ -1,6 +1,6 @@
 -- The ends that the model offers, read off the vectors of the area.
 use Rattle.std.specs.Prelude.{ℕ, ◌≤◌, ◌<◌, ◌≡◌, Bool, cond, Float}
-use Rattle.std.proofs.Math.Option.{Option, none, some}
+use Rattle.std.specs.Prelude.{Option, None, Some}
 use Rattle.definition.specs.Problem.{Terms}
 use Rattle.definition.specs.Machine.{state}
 use Rattle.definition.specs.Driver.{Ends, ends_of}
@@ -11,7 +11,7 @@ use Rattle.subspace.specs.State.{ends_in}
 
 -- the ends that stand in their vectors, where there are any
 abbrev pub ends_where : Bool → Vecs → Option Ends
-ends_where ok v = cond ok (some (ends_in v)) none
+ends_where ok v = cond ok (Some (ends_in v)) None
 
 -- every vector is as it was: scratch and the columns apart
 pub record MachineKept (h : Shape) (a b : Vecs) : Type 0 where

@@ -10,10 +10,9 @@ ghost use Rattle.fit.specs.State.{Steps};
 ghost use Rattle.subspace.specs.State.{ends_in};
 ghost use Rattle.iteration.specs.Model.{Offers};
 
-use compact::Shape;
+use compact::{Model, Shape};
 use counters::Termination;
 use fit::Fit;
-use search::Verdict;
 
 // ---- the model
 
@@ -22,32 +21,9 @@ fn model(area: &mut [f64], shape: Shape, theta: f64) -> bool
     requires { Sound shape (length area.old) × (shape.n ≤ most_coordinates) }
     ensures { Offers shape theta (view area.old shape.n) result (view area.new shape.n) }
 {
-    compact::lay_columns(area, shape, theta);
-    let block = compact::block(area, shape, theta);
-    let z = compact::zeros();
-    let mut multipliers = [z; 32];
-    let mut order = [0usize; 32];
-    let mut found = false;
-    let rows = solve::factor(
-        2 * shape.pairs,
-        block,
-        &mut multipliers,
-        &mut order,
-        &mut found,
-    );
-    if !cauchy::generalized_cauchy(area, shape, theta, found, &rows, &multipliers, &order) {
-        return false;
-    }
-    subspace::primal_minimize(
-        area,
-        shape,
-        theta,
-        &block,
-        found,
-        &rows,
-        &multipliers,
-        &order,
-    )
+    let mut model = Model::new(shape, theta);
+    model.build(area);
+    cauchy::generalized_cauchy(area, &model) && subspace::primal_minimize(area, &model)
 }
 
 // ---- the direction, and the first trial along it
@@ -57,8 +33,7 @@ fn search_along(fit: Fit, area: &mut [f64]) -> Fit
     requires { Sound fit.shape (length area.old) }
     ensures { Steps search_along fit area.old result area.new }
 {
-    let verdict = trial::begin_search(area, fit.shape.n);
-    let Verdict::Another(first) = verdict else {
+    let Some(first) = trial::begin_search(area, fit.shape.n) else {
         return fit::ended(fit, Termination::LineSearchFailed);
     };
     trial::try_step(fit, area, first)
@@ -78,12 +53,16 @@ fn without_pairs(fit: Fit, area: &mut [f64]) -> Fit
     requires { Sound fit.shape (length area.old) × (fit.shape.n ≤ most_coordinates) }
     ensures { Steps without_pairs fit area.old result area.new }
 {
-    let mut shape = fit.shape;
-    shape.pairs = 0;
-    shape.oldest = 0;
-    let mut bare = fit;
-    bare.shape = shape;
-    bare.theta = 1.0;
+    let shape = Shape {
+        pairs: 0,
+        oldest: 0,
+        ..fit.shape
+    };
+    let bare = Fit {
+        shape,
+        theta: 1.0,
+        ..fit
+    };
     if model(area, shape, 1.0) {
         return towards(bare, area);
     }
@@ -95,11 +74,10 @@ fn descend(fit: Fit, area: &mut [f64]) -> Fit
     requires { Sound fit.shape (length area.old) × (fit.shape.n ≤ most_coordinates) }
     ensures { Steps descend_of fit area.old result area.new }
 {
-    let shape = fit.shape;
-    if model(area, shape, fit.theta) {
+    if model(area, fit.shape, fit.theta) {
         return towards(fit, area);
     }
-    if shape.pairs == 0 {
+    if fit.shape.pairs == 0 {
         return fit::ended(fit, Termination::LineSearchFailed);
     }
     without_pairs(fit, area)

@@ -38,13 +38,12 @@ fn learn(fit: Fit, area: &mut [f64]) -> Fit
     let n = fit.shape.n;
     area::difference(area, n, area::VELOCITY, area::TRIAL, area::X);
     area::difference(area, n, area::DISPLACEMENT, area::TRIAL_GRADIENT, area::G);
-    let shape = fit.shape;
-    let updated = compact::update(area, shape, fit.theta);
-    let mut next = fit;
-    let pairs = updated.shape;
-    next.shape = pairs;
-    next.theta = updated.theta;
-    next
+    let updated = compact::update(area, fit.shape, fit.theta);
+    Fit {
+        shape: updated.shape,
+        theta: updated.theta,
+        ..fit
+    }
 }
 
 // The trial's point, value and gradient are held.
@@ -55,9 +54,10 @@ fn hold(fit: Fit, area: &mut [f64]) -> Fit
     let n = fit.shape.n;
     area::copy(area, n, area::X, area::TRIAL);
     area::copy(area, n, area::G, area::TRIAL_GRADIENT);
-    let mut next = fit;
-    next.value = fit.trial_value;
-    next
+    Fit {
+        value: fit.trial_value,
+        ..fit
+    }
 }
 
 // The driver moves to the trial and gives notice.
@@ -65,13 +65,14 @@ fn move_on(fit: Fit, area: &mut [f64]) -> Fit
     requires { Sound fit.shape (length area.old) × (fit.counters.nit < most_counted) }
     ensures { Steps move_of fit area.old result area.new }
 {
-    let counters = fit.counters;
-    let charged = counters::iteration_charged(counters);
-    let held = hold(fit, area);
-    let mut next = fit::with_phase(held, Phase::Notice);
-    next.counters = charged;
-    next.value_before = fit.value;
-    next
+    let mut counters = fit.counters;
+    counters.charge_iteration();
+    Fit {
+        phase: Phase::Notice,
+        counters,
+        value_before: fit.value,
+        ..hold(fit, area)
+    }
 }
 
 // A trial with its gradient: the run ends here unless the search hands back a step.
@@ -81,8 +82,7 @@ fn judge_trial(fit: Fit, area: &mut [f64]) -> Fit
 {
     let n = fit.shape.n;
     let slope = area::dot(area, n, area::TRIAL_GRADIENT, area::DIRECTION);
-    let search = fit.search;
-    let verdict = search::judge(search, fit.value, fit.trial_value, slope);
+    let verdict = search::judge(fit.search, fit.value, fit.trial_value, slope);
     if let Verdict::Accepted = verdict {
         let learnt = learn(fit, area);
         return move_on(learnt, area);
@@ -112,10 +112,9 @@ pub fn complete(fit: Fit, place: Place, area: &mut [f64]) -> Fit
     requires { Ready fit (length area.old) }
     ensures { Steps (complete_of (place_of place)) fit area.old result area.new }
 {
-    let counters = fit.counters;
-    let charged = counters::gradient_charged(counters);
-    let mut next = fit;
-    next.counters = charged;
+    let mut counters = fit.counters;
+    counters.charge_gradient();
+    let next = Fit { counters, ..fit };
     if area::all_finite(area, fit.shape.n, area::TRIAL_GRADIENT) {
         measured(next, place, area)
     } else {

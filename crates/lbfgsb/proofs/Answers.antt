@@ -4,7 +4,7 @@ use native.Mathlib.Omega.{arith}
 use mathlib.Core.Path.{◌≡◌, refl, sym, ap, ◌∙◌}
 use mathlib.Core.Bool.{true, false, false≢true, true≢false}
 use mathlib.Core.List.{List, ◌++◌}
-use mathlib.Core.Option.{none, some}
+use Rattle.std.specs.Prelude.{None, Some}
 use lib.ListN.{length, take, drop}
 use lib.Ieee.{Float}
 use Rattle.definition.specs.Problem as P
@@ -32,7 +32,7 @@ other r e = let z : ◌≡◌ {A = ℕ} 0 1 = cc in omega arith
 
 -- ---- start
 
-pub start_refused : (s : P.Setup) (w : Words) (r : Refusal) → (validate s then check_area (lengths w) s) ≡ some r → Started s w w (H.Answer.refused r)
+pub start_refused : (s : P.Setup) (w : Words) (r : Refusal) → (validate s then check_area (lengths w) s) ≡ Some r → Started s w w (H.Answer.refused r)
 start_refused s w r e = record {
   did = record { sized = refl; holds = λ h k. rw e k; said = λ h k. rw e refl };
   always = rw e refl;
@@ -41,7 +41,7 @@ start_refused s w r e = record {
   log = refl;
 }
 
-pub start_done : (s : P.Setup) (w w' : Words) → (validate s then check_area (lengths w) s) ≡ none → lengths w' ≡ lengths w → w'.log ≡ w.log
+pub start_done : (s : P.Setup) (w w' : Words) → (validate s then check_area (lengths w) s) ≡ None → lengths w' ≡ lengths w → w'.log ≡ w.log
     → Held w' (opened_book s)
     → Started s w w' H.Answer.done
 start_done s w w' e z l h = record {
@@ -77,17 +77,17 @@ reply_unheld r w e =
     replied_by (record { sized = refl; holds = unheld_holds w r e; said = unheld_said w r e })
     (rw e refl) (λ q p. refl) (λ p. absurd (unlike (plain_refusal 13) p))
 
-refused_holds : (w : Words) (r : M.Reply) (c : Refusal) → is_held w.state w.area ≡ true → check_at w r ≡ some c
+refused_holds : (w : Words) (r : M.Reply) (c : Refusal) → is_held w.state w.area ≡ true → check_at w r ≡ Some c
     → (h : History) → Holds w h → Holds w (history_step (lengths w) h (Call.reply r))
 refused_holds w r c t e History.empty k = k
 refused_holds w r c t e (History.fit b) k = rw (check_held_lem w b r k ∙ e) k
 
-refused_said : (w : Words) (r : M.Reply) (c : Refusal) → is_held w.state w.area ≡ true → check_at w r ≡ some c
+refused_said : (w : Words) (r : M.Reply) (c : Refusal) → is_held w.state w.area ≡ true → check_at w r ≡ Some c
     → (h : History) → Holds w h → H.Answer.refused c ≡ history_answer (lengths w) h (Call.reply r)
 refused_said w r c t e History.empty k = absurd (true≢false (sym t ∙ k))
 refused_said w r c t e (History.fit b) k = rw (check_held_lem w b r k ∙ e) refl
 
-pub reply_refused : (r : M.Reply) (w : Words) (c : Refusal) → is_held w.state w.area ≡ true → check_at w r ≡ some c → Replied r w w (H.Answer.refused c)
+pub reply_refused : (r : M.Reply) (w : Words) (c : Refusal) → is_held w.state w.area ≡ true → check_at w r ≡ Some c → Replied r w w (H.Answer.refused c)
 reply_refused r w c t e =
     replied_by (record { sized = refl; holds = refused_holds w r c t e; said = refused_said w r c t e })
     (rw (t, e) refl) (λ q p. refl) (λ p. absurd (unlike c p))
@@ -96,17 +96,17 @@ reply_refused r w c t e =
 abbrev pub OneMore : M.Reply → Words → Words → Type 0
 OneMore r w w' = (b : Book) → Held w b → Held w' (with_reply r b)
 
-done_holds : (r : M.Reply) (w w' : Words) → is_held w.state w.area ≡ true → check_at w r ≡ none → OneMore r w w'
+done_holds : (r : M.Reply) (w w' : Words) → is_held w.state w.area ≡ true → check_at w r ≡ None → OneMore r w w'
     → (h : History) → Holds w h → Holds w' (history_step (lengths w) h (Call.reply r))
 done_holds r w w' t e m History.empty k = absurd (true≢false (sym t ∙ k))
 done_holds r w w' t e m (History.fit b) k = rw (check_held_lem w b r k ∙ e) (m b k)
 
-done_said : (r : M.Reply) (w : Words) → is_held w.state w.area ≡ true → check_at w r ≡ none
+done_said : (r : M.Reply) (w : Words) → is_held w.state w.area ≡ true → check_at w r ≡ None
     → (h : History) → Holds w h → H.Answer.done ≡ history_answer (lengths w) h (Call.reply r)
 done_said r w t e History.empty k = absurd (true≢false (sym t ∙ k))
 done_said r w t e (History.fit b) k = rw (check_held_lem w b r k ∙ e) refl
 
-pub reply_done : (r : M.Reply) (w w' : Words) → is_held w.state w.area ≡ true → check_at w r ≡ none → lengths w' ≡ lengths w → Moved r w w' → OneMore r w w'
+pub reply_done : (r : M.Reply) (w w' : Words) → is_held w.state w.area ≡ true → check_at w r ≡ None → lengths w' ≡ lengths w → Moved r w w' → OneMore r w w'
     → Replied r w w' H.Answer.done
 reply_done r w w' t e z v m =
     replied_by (record { sized = z; holds = done_holds r w w' t e m; said = done_said r w t e })
@@ -124,7 +124,7 @@ moved {r} {t} {f} l h = record {
   log = ap (λ (k : ℕ). take t.extra.words l ++ entry_words r ++ drop k l) (sym h.words);
 }
 
-pub reply_advanced : (r : M.Reply) (t f : Fit) (a b : List Float) (l m : List ℕ) → is_held t a ≡ true → check_said t a (length l) r ≡ none → length b ≡ length a
+pub reply_advanced : (r : M.Reply) (t f : Fit) (a b : List Float) (l m : List ℕ) → is_held t a ≡ true → check_said t a (length l) r ≡ None → length b ≡ length a
     → Advances r t a f b → m ≡ written t.extra.words (entry_words r) l → Replied r (words t a l) (words f b m) H.Answer.done
 reply_advanced r t f a b l m k e z h q =
     let p = said_passed t a l r e in

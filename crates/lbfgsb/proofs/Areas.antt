@@ -154,7 +154,7 @@ module _ (h : Shape) (ring : h.oldest < h.m) (most : h.pairs ≤ h.m) where
 abbrev pub Same : Shape → List Float → List Float → Type 0
 Same h a b = (i : ℕ) → i < length a → (i ≡ mark_at h → ⊥) → Scratch h i ⊎ (word a i ≡ word b i)
 
-module _ (h : Shape) (a b : List Float) (some : 0 < h.n) (sound : Sound h (length a)) where
+module _ (h : Shape) (a b : List Float) (Some : 0 < h.n) (sound : Sound h (length a)) where
   pub each_word : InUse h (view a h.n) (view b h.n) → Same h a b
   each_word both i l other = go (ltb i (mark_at h)) refl
     where
@@ -168,18 +168,18 @@ module _ (h : Shape) (a b : List Float) (some : 0 < h.n) (sound : Sound h (lengt
       split = sym (div-add-mod' i h.n)
 
       inside : ScratchVector h q ⊎ (view a h.n q ≡ view b h.n q) → Scratch h i ⊎ (word a i ≡ word b i)
-      inside (inl s) = inl (Scratch.within q k split (mod-lt i some) s)
+      inside (inl s) = inl (Scratch.within q k split (mod-lt i Some) s)
       inside (inr e) =
           inr
           (ap (word a) split
-          ∙ word-view a h.n q k (mod-lt i some)
+          ∙ word-view a h.n q k (mod-lt i Some)
           ∙ ap (λ (v : List Float). word v k) e
-          ∙ sym (word-view b h.n q k (mod-lt i some))
+          ∙ sym (word-view b h.n q k (mod-lt i Some))
           ∙ ap (word b) (sym split))
 
       go : (t : Bool) → ltb i (mark_at h) ≡ t → Scratch h i ⊎ (word a i ≡ word b i)
       go true e =
-          let few : q < vectors h.m = (div-lt_iff_lt-mul some).1 (ltb-true i (mark_at h) e) in
+          let few : q < vectors h.m = (div-lt_iff_lt-mul Some).1 (ltb-true i (mark_at h) e) in
           inside (each_vector h sound.ring sound.most (view a h.n) (view b h.n) both q few)
       go false e = ⊎_elim (λ one. absurd (other (sym one))) (λ past. inl (Scratch.behind past)) (eq-or-lt_of_le (ltb-false i (mark_at h) e))
 

@@ -4,7 +4,7 @@ use native.Mathlib.Omega.{arith}
 use mathlib.Core.Path.{◌≡◌, refl, sym, ap, ap₂, ◌∙◌, subst}
 use mathlib.Core.Bool.{Bool, true, false, false≢true}
 use mathlib.Core.List.{List, ◌++◌, append_assoc}
-use mathlib.Core.Option.{Option, none, some}
+use Rattle.std.specs.Prelude.{Option, None, Some, Result, Ok, Err}
 use lib.Dec.{ltb}
 use lib.ListN.{length, take, drop, replicate, length-append, length-drop, length-replicate}
 use lib.Seq.{take_at, take-take, length-take-le}
@@ -24,11 +24,8 @@ use Rattle.fit.specs.declared.Fit.{Fit}
 use Rattle.held.specs.Test.{is_held}
 use Rattle.held.proofs.Test.{is_held_lem}
 use Rattle.replay.specs.Replays.{ReplayedTo}
-use Rattle.replay.specs.declared.Replayed.{Replayed}
-use Rattle.replay.specs.declared.Replayed.TheVariants as R
-use Rattle.lbfgsb.specs.declared.Answer.{Answer}
 use Rattle.lbfgsb.specs.Words.{Words, words, lengths, setup_of, log_in, Stands, Held, Holds}
-use Rattle.lbfgsb.specs.Bridge.{next, next_by, kept, kept_by}
+use Rattle.lbfgsb.specs.Bridge.{next, kept}
 use Rattle.lbfgsb.specs.Did.{Shortened, Taken, TakesReplies, TakesBack, TakenBack}
 use Rattle.lbfgsb.specs.Table.{check_back, replies_left, stay_answer}
 use Rattle.rebuild.specs.Built.{struck_out, Built, Cut, Stays, Shortens}
@@ -57,7 +54,7 @@ left_over w h j = (call_row (lengths w) h (Call.take_back j)).left
 
 -- ---- every word stays
 
-back_refused : (w : Words) (j : ℕ) (r : Refusal) → check_back w j ≡ some r → TakenBack j w w (H.Answer.refused r)
+back_refused : (w : Words) (j : ℕ) (r : Refusal) → check_back w j ≡ Some r → TakenBack j w w (H.Answer.refused r)
 back_refused w j r e = record {
   did = record {
     sized = refl;
@@ -69,20 +66,20 @@ back_refused w j r e = record {
 }
 
 -- by the refusal that the code answers
-pub back_by : (w : Words) (j : ℕ) (c : Q.Refusal) (r : Refusal) → refusal_of c ≡ r → check_back w j ≡ some r → TakenBack j w w (H.Answer.refused (refusal_of c))
+pub back_by : (w : Words) (j : ℕ) (c : Q.Refusal) (r : Refusal) → refusal_of c ≡ r → check_back w j ≡ Some r → TakenBack j w w (H.Answer.refused (refusal_of c))
 back_by w j c r e h = subst (λ (x : Refusal). TakenBack j w w (H.Answer.refused x)) (sym e) (back_refused w j r h)
 
-pub unheld_refused : (w : Words) (j : ℕ) → is_held w.state w.area ≡ false → 0 < j → check_back w j ≡ some (plain_refusal 16)
+pub unheld_refused : (w : Words) (j : ℕ) → is_held w.state w.area ≡ false → 0 < j → check_back w j ≡ Some (plain_refusal 16)
 unheld_refused w j h l = check_empty w j h ∙ ap (λ (t : Bool). when t (refuse 16 0 0)) (lt-ltb 0 j l)
 
-pub many_refused : (w : Words) (j : ℕ) → is_held w.state w.area ≡ true → w.state.extra.entries < j → check_back w j ≡ some (plain_refusal 16)
+pub many_refused : (w : Words) (j : ℕ) → is_held w.state w.area ≡ true → w.state.extra.entries < j → check_back w j ≡ Some (plain_refusal 16)
 many_refused w j h l =
     check_held_lem w j h
     ∙ ap (λ (t : Bool). when t (refuse 16 0 0) then when (ltb (length w.log) w.state.extra.words) (refuse 12 0 0))
     (lt-ltb w.state.extra.entries j l)
 
 pub short_refused : (w : Words) (j : ℕ) → is_held w.state w.area ≡ true → j ≤ w.state.extra.entries → length w.log < w.state.extra.words
-    → check_back w j ≡ some (plain_refusal 12)
+    → check_back w j ≡ Some (plain_refusal 12)
 short_refused w j h l k =
     check_held_lem w j h
     ∙ ap₂ (λ (t u : Bool). when t (refuse 16 0 0) then when u (refuse 12 0 0)) (le-ltb w.state.extra.entries j l)
@@ -90,7 +87,7 @@ short_refused w j h l k =
 
 pub unheld_kept : (w : Words) (j : ℕ) → is_held w.state w.area ≡ false → j ≡ 0 → TakenBack j w w H.Answer.done
 unheld_kept w j h e =
-    let passed : check_back w j ≡ none = check_empty w j h ∙ ap (λ (t : Bool). when t (refuse 16 0 0)) (le-ltb 0 j (omega arith)) in
+    let passed : check_back w j ≡ None = check_empty w j h ∙ ap (λ (t : Bool). when t (refuse 16 0 0)) (le-ltb 0 j (omega arith)) in
     record {
       did = record {
         sized = refl;
@@ -132,13 +129,13 @@ module _ (t : Fit) (a : List Float) (l : List ℕ) (j : ℕ) (test : is_held t a
   abbrev was : Words
   was = words t a l
 
-  passed : check_back was j ≡ none
+  passed : check_back was j ≡ None
   passed =
       check_held_lem was j test
       ∙ ap₂ (λ (p q : Bool). when p (refuse 16 0 0) then when q (refuse 12 0 0)) (le-ltb t.extra.entries j few) (le-ltb (length l) t.extra.words room)
 
   -- the replies of a history that the words hold, the last j struck
-  history_left : (b : Book) → Held was b → replies_left j was ≡ some (struck j b).replies
+  history_left : (b : Book) → Held was b → replies_left j was ≡ Some (struck j b).replies
   history_left b h =
       let k = h.stands in
       ap (λ (x : Setup). entries_kept x (t.extra.entries - j) (log_in was)) k.setup
@@ -219,23 +216,18 @@ module _ (t : Fit) (a : List Float) (l : List ℕ) (j : ℕ) (test : is_held t a
         (subst (λ (q : Option (List M.Reply)). TakesReplies q was (words f b now_log)) kept taken)
 
   -- one of them is refused
-  module _ (number : ℕ) (b : List Float) (h : Cut (setup_of was) (log_in was) (t.extra.entries - j) (length a) number b) where
-    back_zeroed : TakenBack j was (words t b l) (H.Answer.refused (plain_refusal number))
+  module _ (c : Q.Refusal) (b : List Float) (h : Cut (setup_of was) (log_in was) (t.extra.entries - j) (length a) c b) where
+    back_zeroed : TakenBack j was (words t b l) (H.Answer.refused (refusal_of c))
     back_zeroed =
-        held_back (words t b l) (H.Answer.refused (plain_refusal number))
+        held_back (words t b l) (H.Answer.refused (refusal_of c))
         (ap (λ (x : ℕ). record { area = x; log = length l }) (ap length h.area ∙ length-replicate (length a) zero64))
-        (ap (λ (i : ℕ). H.Answer.refused (plain_refusal i)) h.which ∙ ap stay_answer (sym h.is))
+        (ap (λ (q : Q.Refusal). H.Answer.refused (refusal_of q)) h.which ∙ ap stay_answer (sym h.is))
         (subst (λ (q : Option (List M.Reply)). TakesReplies q was (words t b l)) (sym h.is) (ap (λ (x : List Float). words t x l) h.area))
 
   -- ---- by what is built
 
-  built_back : (q : Replayed) (b : List Float) (m : List ℕ) → Stays (setup_of was) (log_in was) (t.extra.entries - j) (length l) a q b
-      → Shortens q t.extra.words l m
-      → TakenBack j was (words (next_by t q) b m) (kept_by q)
-  built_back (R.Done f) b m h z = subst (λ (k : List ℕ). TakenBack j was (words f b k) H.Answer.done) (sym z) (taken_back f b h.0 h.1 h.2)
-  built_back (R.Refused i) b m h z = subst (λ (k : List ℕ). TakenBack j was (words t b k) (H.Answer.refused (plain_refusal i))) (sym z) (back_zeroed i b h)
-
-  pub answered_back : (q : Replayed) (o : Answer) (b : List Float) (m : List ℕ) → ((t : Fit) → next t o ≡ next_by t q) × (kept o ≡ kept_by q)
-      → Stays (setup_of was) (log_in was) (t.extra.entries - j) (length l) a q b × Shortens q t.extra.words l m
-      → TakenBack j was (words (next t o) b m) (kept o)
-  answered_back q o b m e h = rw (e.0 t, e.1) (built_back q b m h.0 h.1)
+  pub built_back : (q : Result Fit Q.Refusal) (b : List Float) (m : List ℕ)
+      → Stays (setup_of was) (log_in was) (t.extra.entries - j) (length l) a q b → Shortens q t.extra.words l m
+      → TakenBack j was (words (next t q) b m) (kept q)
+  built_back (Ok f) b m h z = subst (λ (k : List ℕ). TakenBack j was (words f b k) H.Answer.done) (sym z) (taken_back f b h.0 h.1 h.2)
+  built_back (Err c) b m h z = subst (λ (k : List ℕ). TakenBack j was (words t b k) (H.Answer.refused (refusal_of c))) (sym z) (back_zeroed c b h)

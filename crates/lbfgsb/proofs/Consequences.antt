@@ -3,7 +3,7 @@ use Prim.Native.Nat.{ℕ, ◌+◌, ◌≤◌}
 use mathlib.Core.Path.{◌≡◌, refl, sym, ap, subst}
 use mathlib.Core.Bool.{Bool, true, false, false≢true, cond}
 use mathlib.Core.List.{List, [], ◌∷◌}
-use mathlib.Core.Option.{Option, none, some}
+use Rattle.std.specs.Prelude.{Option, None, Some}
 use native.Mathlib.Omega.{arith}
 use Rattle.definition.specs.Problem.{Setup, Check, dimension, either}
 use Rattle.definition.specs.Counters.{Termination}
@@ -63,12 +63,12 @@ reported s rs a d v = go (run s rs).phase refl
 -- ---- there is a first value reply
 
 abbrev First : Option ℕ → Type 0
-First o = (w : ℕ) × (o ≡ some w)
+First o = (w : ℕ) × (o ≡ Some w)
 
-first_in : (f : Option ℕ) (t : Bool) (w n : ℕ) → 1 ≤ n + cond t 1 0 → (1 ≤ n → First f) → First (either f (cond t (some w) none))
-first_in (some v) t w n m h = (v, refl)
-first_in none true w n m h = (w, refl)
-first_in none false w n m h = h (omega (arith, m))
+first_in : (f : Option ℕ) (t : Bool) (w n : ℕ) → 1 ≤ n + cond t 1 0 → (1 ≤ n → First f) → First (either f (cond t (Some w) None))
+first_in (Some v) t w n m h = (v, refl)
+first_in None true w n m h = (w, refl)
+first_in None false w n m h = h (omega (arith, m))
 
 first_given : (rs : List Reply) → 1 ≤ count_of is_value rs → First (first_value rs)
 unfolding count_of first_value
@@ -122,28 +122,28 @@ every_report {b = b} p ch e v d l =
 -- ---- the open question
 
 abbrev present : Option Question → Bool
-present none = false
-present (some q) = true
+present None = false
+present (Some q) = true
 
 abbrev question_in : Answer → Option Question
-question_in (Answer.refused r) = none
-question_in Answer.done = none
+question_in (Answer.refused r) = None
+question_in Answer.done = None
 question_in (Answer.asked q) = q
-question_in (Answer.reported r) = none
-question_in (Answer.counted k) = none
-question_in (Answer.entered ws) = none
-question_in (Answer.saved bs) = none
+question_in (Answer.reported r) = None
+question_in (Answer.counted k) = None
+question_in (Answer.entered ws) = None
+question_in (Answer.saved bs) = None
 
 -- an answer that asks has the definition's question
-question_is : (o : Option Question) (q : Question) (c : Check) → Answer.asked (some q) ≡ refused_by c (Answer.asked o) → o ≡ some q
-question_is o q none e = ap question_in (sym e)
-question_is o q (some r) e = absurd (false≢true (ap (λ (a : Answer). present (question_in a)) (sym e)))
+question_is : (o : Option Question) (q : Question) (c : Check) → Answer.asked (Some q) ≡ refused_by c (Answer.asked o) → o ≡ Some q
+question_is o q None e = ap question_in (sym e)
+question_is o q (Some r) e = absurd (false≢true (ap (λ (a : Answer). present (question_in a)) (sym e)))
 
 -- after every list of calls, a question that is asked is of a point in the box, with no NaN
 pub every_question :
     {w w' v : Words} {cs : List Call} {os : List Answer} {b : Book} {room : ℕ} {q : Question}
     → Allowed w cs os → Chain Called w cs os w' → history_after (lengths w) History.empty cs ≡ History.fit b
-    → Called (Call.question room) w' v (Answer.asked (some q)) → Asks b.setup q
+    → Called (Call.question room) w' v (Answer.asked (Some q)) → Asks b.setup q
 every_question {w} {w'} {cs} {b = b} {room} {q} p ch e d =
     let s = b.setup in
     let rs = b.replies in

@@ -4,7 +4,7 @@ use native.Mathlib.Omega.{arith}
 use mathlib.Core.Path.{◌≡◌, refl, sym, ap, ◌∙◌, subst}
 use mathlib.Core.Bool.{Bool, true, false, cond}
 use mathlib.Core.List.{List}
-use mathlib.Core.Option.{Option, none, some}
+use Rattle.std.specs.Prelude.{Option, None, Some}
 use lib.ListN.{length}
 use lib.Ieee.{Float}
 use Rattle.definition.specs.Number.{zero64}
@@ -14,14 +14,9 @@ use Rattle.definition.specs.Counters as C
 use Rattle.definition.specs.Book.{Book}
 use Rattle.definition.specs.Machine as M
 use Rattle.area.specs.Area.{view}
-use Rattle.problem.specs.Setups.{float_of, count_of, scheme_of, bounds_in}
-use Rattle.problem.specs.declared.MaybeFloat.{MaybeFloat}
-use Rattle.problem.specs.declared.MaybeFloat.TheVariants as F
-use Rattle.problem.specs.declared.MaybeCount.{MaybeCount}
-use Rattle.problem.specs.declared.MaybeCount.TheVariants as K
+use Rattle.problem.specs.Setups.{scheme_of, bounds_in}
 use Rattle.problem.specs.declared.Scheme.{Scheme}
 use Rattle.problem.specs.declared.Scheme.TheVariants.{Forward, Central}
-use Rattle.problem.specs.declared.Options.{Options}
 use Rattle.counters.specs.Counts.{termination_of}
 use Rattle.counters.specs.declared.Termination.{Termination}
 use Rattle.counters.specs.declared.Termination.TheVariants.{GTol, FTol, MaxIterations, MaxEvaluations, Cancelled, Nonfinite, LineSearchFailed, ObjectiveFailed}
@@ -46,22 +41,6 @@ use Rattle.lbfgsb.proofs.Areas.{InUse, each_word}
 -- a reading that can be undone tells two values apart
 apart : {A B : Type 0} (f : A → B) (g : B → A) → ((a : A) → g (f a) ≡ a) → (x y : A) → f x ≡ f y → x ≡ y
 apart f g k x y e = sym (k x) ∙ ap g e ∙ k y
-
-abbrev float_back : Option Float → MaybeFloat
-float_back none = F.Absent
-float_back (some v) = F.Given v
-
-float_back_lem : (x : MaybeFloat) → float_back (float_of x) ≡ x
-float_back_lem F.Absent = refl
-float_back_lem (F.Given v) = refl
-
-abbrev count_back : Option ℕ → MaybeCount
-count_back none = K.Absent
-count_back (some k) = K.Given k
-
-count_back_lem : (x : MaybeCount) → count_back (count_of x) ≡ x
-count_back_lem K.Absent = refl
-count_back_lem (K.Given k) = refl
 
 abbrev scheme_back : P.Scheme → Scheme
 scheme_back P.Scheme.forward = Forward
@@ -124,22 +103,22 @@ phase_back_lem (Ended t) = ap (λ (p : Termination). Ended p) (termination_back_
 -- whether there are bounds, and a high end
 
 abbrev present : {A : Type 0} → Option A → Bool
-present none = false
-present (some a) = true
+present None = false
+present (Some a) = true
 
 bounds_present : (b : Bool) (l u : List Float) → present (bounds_in b l u) ≡ b
 bounds_present true l u = refl
 bounds_present false l u = refl
 
-high_present : (b : Bool) (x : Float) → present (cond b (some x) none) ≡ b
+high_present : (b : Bool) (x : Float) → present (cond b (Some x) None) ≡ b
 high_present true x = refl
 high_present false x = refl
 
 abbrev or_zero : Option Float → Float
-or_zero none = zero64
-or_zero (some x) = x
+or_zero None = zero64
+or_zero (Some x) = x
 
-high_back : (b : Bool) (x : Float) → (b ≡ false → x ≡ zero64) → or_zero (cond b (some x) none) ≡ x
+high_back : (b : Bool) (x : Float) → (b ≡ false → x ≡ zero64) → or_zero (cond b (Some x) None) ≡ x
 high_back true x h = refl
 high_back false x h = sym (h refl)
 
@@ -196,16 +175,6 @@ module _ (w v : Words) (e : machine_in w ≡ machine_in v) where
       ∙ pair_at_lem v.state.shape (view v.area v.state.shape.n) k (subst (λ (x : ℕ). k < x) same_pairs l)
 
 module _ (w v : Words) (d : setup_of w ≡ setup_of v) where
-  same_float : (f : Options → MaybeFloat) (g : P.Setup → Option Float) → g (setup_of w) ≡ float_of (f w.state.options)
-      → g (setup_of v) ≡ float_of (f v.state.options)
-      → f w.state.options ≡ f v.state.options
-  same_float f g p q = apart float_of float_back float_back_lem (f w.state.options) (f v.state.options) (sym p ∙ ap g d ∙ q)
-
-  same_count : (f : Options → MaybeCount) (g : P.Setup → Option ℕ) → g (setup_of w) ≡ count_of (f w.state.options)
-      → g (setup_of v) ≡ count_of (f v.state.options)
-      → f w.state.options ≡ f v.state.options
-  same_count f g p q = apart count_of count_back count_back_lem (f w.state.options) (f v.state.options) (sym p ∙ ap g d ∙ q)
-
   same_bounded : w.state.options.bounded ≡ v.state.options.bounded
   same_bounded =
       sym (bounds_present w.state.options.bounded _ _)
@@ -215,13 +184,13 @@ module _ (w v : Words) (d : setup_of w ≡ setup_of v) where
   same_options : w.state.options ≡ v.state.options
   same_options =
       let scheme = apart scheme_of scheme_back scheme_back_lem w.state.options.scheme v.state.options.scheme (ap (λ (s : P.Setup). s.scheme) d) in
-      let maxiter = same_count (λ o. o.maxiter) (λ s. s.maxiter) refl refl in
-      let maxfev = same_count (λ o. o.maxfev) (λ s. s.maxfev) refl refl in
-      let maxcor = same_count (λ o. o.maxcor) (λ s. s.maxcor) refl refl in
-      let tol = same_float (λ o. o.tol) (λ s. s.tol) refl refl in
-      let ftol = same_float (λ o. o.ftol) (λ s. s.ftol) refl refl in
-      let gtol = same_float (λ o. o.gtol) (λ s. s.gtol) refl refl in
-      let eps = same_float (λ o. o.eps) (λ s. s.eps) refl refl in
+      let maxiter = ap (λ (s : P.Setup). s.maxiter) d in
+      let maxfev = ap (λ (s : P.Setup). s.maxfev) d in
+      let maxcor = ap (λ (s : P.Setup). s.maxcor) d in
+      let tol = ap (λ (s : P.Setup). s.tol) d in
+      let ftol = ap (λ (s : P.Setup). s.ftol) d in
+      let gtol = ap (λ (s : P.Setup). s.gtol) d in
+      let eps = ap (λ (s : P.Setup). s.eps) d in
       λ i. record {
         bounded = same_bounded i;
         maxiter = maxiter i;

@@ -6,7 +6,7 @@ use native.Mathlib.Omega.{arith}
 use mathlib.Core.Path.{◌≡◌, refl, sym, ap, ◌∙◌, subst}
 use mathlib.Core.Bool.{Bool, true, false, true≢false, false≢true, cond, ◌&&◌}
 use mathlib.Core.List.{List, ◌++◌}
-use mathlib.Core.Option.{Option, none, some}
+use Rattle.std.specs.Prelude.{Option, None, Some}
 use lib.Dec.{ltb}
 use lib.ListN.{length, take, drop, replicate, length-replicate, length-append}
 use lib.Seq.{length-take-le, take-append_seam, drop-append_seam, drop-append-le, drop_at, take_at}
@@ -45,9 +45,9 @@ refused_by_lem (Answer.entered ws) e = absurd (false≢true e)
 refused_by_lem (Answer.saved bs) e = absurd (false≢true e)
 
 -- checks that do not refuse passed
-unrefused : (c : Check) (o : Answer) → is_refused (refused_by c o) ≡ false → c ≡ none
-unrefused none o e = refl
-unrefused (some r) o e = absurd (true≢false e)
+unrefused : (c : Check) (o : Answer) → is_refused (refused_by c o) ≡ false → c ≡ None
+unrefused None o e = refl
+unrefused (Some r) o e = absurd (true≢false e)
 
 not_refused : {o p : Answer} → is_refused o ≡ true → o ≡ p → is_refused p ≡ false → ⊥
 not_refused t e f = true≢false (sym t ∙ ap is_refused e ∙ f)
@@ -166,8 +166,8 @@ reply_exact {r} {w} {w'} {o} l = record {
       where
         go : (b : Bool) (c : Check) → is_refused (cond b (refused_by c Answer.done) (Answer.refused (plain_refusal 13))) ≡ false
             → cond b (refused_by c Answer.done) (Answer.refused (plain_refusal 13)) ≡ Answer.done
-        go true none f = refl
-        go true (some c) f = absurd (true≢false f)
+        go true None f = refl
+        go true (Some c) f = absurd (true≢false f)
         go false c f = absurd (true≢false f)
 
     front : is_refused o ≡ false → length (log_in w) ≡ w.state.extra.words
@@ -217,7 +217,7 @@ struck {w} {w'} t l =
     }
 
 -- the log of a held fit that passed the checks has all its words
-back_room : (w : Words) (j : ℕ) → is_held w.state w.area ≡ true → check_back w j ≡ none → w.state.extra.words ≤ length w.log
+back_room : (w : Words) (j : ℕ) → is_held w.state w.area ≡ true → check_back w j ≡ None → w.state.extra.words ≤ length w.log
 back_room w j h e =
     let short = ltb (length w.log) w.state.extra.words in
     let p = both_passed (when (ltb w.state.extra.entries j) (refuse 16 0 0)) (short_log w) (rw h at e) in
@@ -231,25 +231,25 @@ record Back (b : Bool) (c : Check) (q : Option (List Reply)) (w w' : Words) (o :
 
 -- what the contract says, by the same
 abbrev Leaves : Bool → Check → Option (List Reply) → Words → Words → Type 0
-Leaves b (some r) q w w' = w' ≡ w
-Leaves b none q w w' = cond b (TakesReplies q w w') (w' ≡ w)
+Leaves b (Some r) q w w' = w' ≡ w
+Leaves b None q w w' = cond b (TakesReplies q w w') (w' ≡ w)
 
 back_by :
-    (b : Bool) (c : Check) (q : Option (List Reply)) (w w' : Words) (o : Answer) → (b ≡ true → c ≡ none → w.state.extra.words ≤ length w.log)
+    (b : Bool) (c : Check) (q : Option (List Reply)) (w w' : Words) (o : Answer) → (b ≡ true → c ≡ None → w.state.extra.words ≤ length w.log)
     → o ≡ refused_by c (cond b (stay_answer q) Answer.done) → Leaves b c q w w' → Back b c q w w' o
-back_by true (some r) q w w' o l e x = record { refused = λ t. x; result = λ f. absurd (true≢false (ap is_refused (sym e) ∙ f)); past = struck_none x }
-back_by false (some r) q w w' o l e x = record { refused = λ t. x; result = λ f. x; past = struck_none x }
-back_by true none (some rs) w w' o l e x = record {
+back_by true (Some r) q w w' o l e x = record { refused = λ t. x; result = λ f. absurd (true≢false (ap is_refused (sym e) ∙ f)); past = struck_none x }
+back_by false (Some r) q w w' o l e x = record { refused = λ t. x; result = λ f. x; past = struck_none x }
+back_by true None (Some rs) w w' o l e x = record {
   refused = λ t. absurd (not_refused t e refl);
   result = λ f. x.stands;
   past = struck x.log (l refl refl);
 }
-back_by true none none w w' o l e x = record {
+back_by true None None w w' o l e x = record {
   refused = λ t. x;
   result = λ f. true≢false (ap is_refused (sym e) ∙ f);
   past = subst (Struck w) (sym x) (record { fewer = omega arith; zeroed = rw (none_struck w) refl; past = refl });
 }
-back_by false none q w w' o l e x = record { refused = λ t. x; result = λ f. x; past = struck_none x }
+back_by false None q w w' o l e x = record { refused = λ t. x; result = λ f. x; past = struck_none x }
 
 back_exact : {j : ℕ} {w w' : Words} {o : Answer} → TakenBack j w w' o → Exact (Call.take_back j) w w' o
 back_exact {j} {w} {w'} {o} l =
@@ -257,8 +257,8 @@ back_exact {j} {w} {w'} {o} l =
     record { answer = l.always; refused = h.refused; result = h.result; past = h.past; sized = l.did.sized }
   where
     leaves : (c : Check) → TakesBack j c w w' → Leaves (is_held w.state w.area) c (replies_left j w) w w'
-    leaves none x = x
-    leaves (some r) x = x
+    leaves None x = x
+    leaves (Some r) x = x
 
 -- ---- each call, and every list of calls
 

@@ -5,7 +5,7 @@ use native.Mathlib.Omega.{arith}
 use mathlib.Core.Path.{◌≡◌, refl, sym, ap, ◌∙◌, subst}
 use mathlib.Core.Bool.{Bool, true, false, false≢true, cond, ◌&&◌}
 use mathlib.Core.List.{List}
-use mathlib.Core.Option.{Option, none, some}
+use Rattle.std.specs.Prelude.{Option, None, Some}
 use lib.Dec.{ltb}
 use lib.ListN.{length}
 use Rattle.definition.specs.Problem.{Refusal, Check, refuse, when, ◌then◌}
@@ -52,9 +52,9 @@ entry_17 w j e = go (is_held w.state w.area) (check_back w j) (replies_left j w)
   where
     go : (b : Bool) (c : Check) (q : Option (List Reply)) → b && is_none c && is_none q ≡ true
         → refused_by c (cond b (stay_answer q) Answer.done) ≡ Answer.refused (plain_refusal 17)
-    go true none none e = refl
-    go true none (some rs) e = absurd (false≢true e)
-    go true (some r) q e = absurd (false≢true e)
+    go true None None e = refl
+    go true None (Some rs) e = absurd (false≢true e)
+    go true (Some r) q e = absurd (false≢true e)
     go false c q e = absurd (false≢true e)
 
 never_at_entry :

@@ -4,7 +4,7 @@ use Prim.Native.Nat.{ℕ, zero, suc, ◌*◌, ◌≤◌, ◌<◌}
 use mathlib.Core.Path.{◌≡◌, refl, sym, ap, ◌∙◌, subst}
 use mathlib.Core.Bool.{Bool, true, false, false≢true, beq, ◌&&◌, ◌||◌}
 use mathlib.Core.List.{List, ◌∷◌}
-use mathlib.Core.Option.{Option, none, some}
+use Rattle.std.specs.Prelude.{Option, None, Some}
 use mathlib.Core.Logic.{◌↔◌}
 use native.Mathlib.Omega.{arith}
 use lib.Dec.{eqb, ltb}
@@ -78,9 +78,9 @@ question_answer_lem : (z : Lengths) (b : Book) (room : ℕ) → dimension b.setu
     → history_answer z (History.fit b) (Call.question room) ≡ Answer.asked (question_of (run_of b))
 question_answer_lem z b room l = ap (λ (c : Check). refused_by c (Answer.asked (question_of (run_of b)))) (go (question_of (run_of b)))
   where
-    go : (q : Option Question) → check_question b room q ≡ none
-    go none = refl
-    go (some q) = rw (le-ltb room (dimension b.setup) l) refl
+    go : (q : Option Question) → check_question b room q ≡ None
+    go None = refl
+    go (Some q) = rw (le-ltb room (dimension b.setup) l) refl
 
 report_answer_lem : (z : Lengths) (b : Book) (room : ℕ) → unreported (run_of b).phase ≡ false → dimension b.setup ≤ room
     → history_answer z (History.fit b) (Call.report room) ≡ Answer.reported (report_of (run_of b))
@@ -103,9 +103,9 @@ back_answer_lem z j l = rw (lt-ltb 0 j l) refl
 
 -- ---- an accepted opening or reading in, at any words
 
-check_passed : (c : Check) → Answer.done ≡ refused_by c Answer.done → c ≡ none
-check_passed none e = refl
-check_passed (some r) e = cc
+check_passed : (c : Check) → Answer.done ≡ refused_by c Answer.done → c ≡ None
+check_passed None e = refl
+check_passed (Some r) e = cc
 
 start_said : {s : Setup} {w w' : Words} → Started s w w' Answer.done → Answer.done ≡ history_answer (lengths w) History.empty (Call.start s)
 start_said {s} {w} k =

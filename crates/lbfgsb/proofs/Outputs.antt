@@ -10,12 +10,10 @@ use Rattle.lbfgsb.specs.Words.{Words}
 use Rattle.lbfgsb.specs.Bridge.{asked, told, entered, saved, first_of}
 use Rattle.lbfgsb.specs.Did.{Written, taken}
 use Rattle.lbfgsb.specs.Chain.{Output, floats_of, numbers_of}
-use Rattle.lbfgsb.specs.declared.Asked.{Asked}
-use Rattle.lbfgsb.specs.declared.Asked.TheVariants as Q
-use Rattle.lbfgsb.specs.declared.Told.{Told}
-use Rattle.lbfgsb.specs.declared.Told.TheVariants as T
-use Rattle.lbfgsb.specs.declared.Wrote.{Wrote}
-use Rattle.lbfgsb.specs.declared.Wrote.TheVariants as W
+use Rattle.std.specs.Prelude.{Option, None, Some, Result, Ok, Err}
+use Rattle.problem.specs.declared.Refusal.{Refusal}
+use Rattle.fit.specs.declared.Kind.{Kind}
+use Rattle.question.specs.declared.Outcome.{Outcome}
 use Rattle.lbfgsb.proofs.Firsts.{first_long, first_taken}
 use Rattle.lbfgsb.proofs.Trace.{Called, by_start, by_restore, by_reply, by_take_back, by_question, by_report, by_replies, by_entry, by_save}
 
@@ -37,22 +35,22 @@ first_written {out} {out'} k h =
     let same : first_of k out' ≡ take k out' = first_taken k out' (omega (arith, h.within, h.sized, first_long k out')) in
     subst (λ (v : List ℕ). Output v out out') (sym same) (some_written k (subst (λ (v : List ℕ). Written (length v) out out') same h))
 
-asked_written : (z : Asked) (n : ℕ) (out out' : List Float) → Written (taken (asked z n out')) out out' → Output (floats_of (asked z n out')) out out'
-asked_written Q.Nothing n out out' h = none_written h
-asked_written (Q.Is k) n out out' h = some_written n h
-asked_written (Q.Refused c) n out out' h = none_written h
+asked_written : (z : Result (Option Kind) Refusal) (n : ℕ) (out out' : List Float) → Written (taken (asked z n out')) out out' → Output (floats_of (asked z n out')) out out'
+asked_written (Ok None) n out out' h = none_written h
+asked_written (Ok (Some k)) n out out' h = some_written n h
+asked_written (Err c) n out out' h = none_written h
 
-told_written : (z : Told) (n : ℕ) (out out' : List Float) → Written (taken (told z n out')) out out' → Output (floats_of (told z n out')) out out'
-told_written (T.Is o) n out out' h = some_written n h
-told_written (T.Refused c) n out out' h = none_written h
+told_written : (z : Result Outcome Refusal) (n : ℕ) (out out' : List Float) → Written (taken (told z n out')) out out' → Output (floats_of (told z n out')) out out'
+told_written (Ok o) n out out' h = some_written n h
+told_written (Err c) n out out' h = none_written h
 
-entered_written : (z : Wrote) (out out' : List ℕ) → Written (taken (entered z out')) out out' → Output (numbers_of (entered z out')) out out'
-entered_written (W.Is k) out out' h = first_written k h
-entered_written (W.Refused c) out out' h = none_written h
+entered_written : (z : Result ℕ Refusal) (out out' : List ℕ) → Written (taken (entered z out')) out out' → Output (numbers_of (entered z out')) out out'
+entered_written (Ok k) out out' h = first_written k h
+entered_written (Err c) out out' h = none_written h
 
-saved_written : (z : Wrote) (out out' : List ℕ) → Written (taken (saved z out')) out out' → Output (numbers_of (saved z out')) out out'
-saved_written (W.Is k) out out' h = first_written k h
-saved_written (W.Refused c) out out' h = none_written h
+saved_written : (z : Result ℕ Refusal) (out out' : List ℕ) → Written (taken (saved z out')) out out' → Output (numbers_of (saved z out')) out out'
+saved_written (Ok k) out out' h = first_written k h
+saved_written (Err c) out out' h = none_written h
 
 -- equal answers leave equal outputs, where they were equal
 pub answer_decides : {A : Type 0} (front out a b : List A) → Output front out a → Output front out b → a ≡ b

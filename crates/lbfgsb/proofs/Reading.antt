@@ -4,11 +4,11 @@ use native.Mathlib.Omega.{arith}
 use mathlib.Core.Path.{◌≡◌, refl, sym, ap, ap₂, ◌∙◌}
 use mathlib.Core.Bool.{Bool, true, false}
 use mathlib.Core.List.{List, []}
-use mathlib.Core.Option.{Option, none, some}
+use Rattle.std.specs.Prelude.{Option, None, Some}
 use borrow.Author.Tests.{lt-ltb, le-ltb}
 use lib.Dec.{ltb}
 use lib.ListN.{length, take, drop, length-append, length-drop, length-set}
-use lib.Seq.{take_at, drop_at, length-take-le}
+use lib.Seq.{take_at, drop_at}
 use lib.Ieee.{Float}
 use Rattle.definition.specs.Gradient as G
 use Rattle.definition.specs.Problem.{refuse, when, ◌then◌}
@@ -19,7 +19,9 @@ use Rattle.definition.specs.History.{Call, output_short, refused_by}
 use Rattle.area.specs.Area.{Vecs, view, vector_x, vector_trial}
 use Rattle.problem.specs.Setups.{refusal_of}
 use Rattle.problem.specs.declared.Refusal.{Refusal}
-use Rattle.fit.specs.State.{machine, machine_of, phase_of}
+use Rattle.fit.specs.State.{kind_number, machine, machine_of, phase_of}
+use Rattle.fit.specs.declared.Kind.{Kind}
+use Rattle.fit.specs.declared.Kind.TheVariants as K
 use Rattle.fit.specs.declared.Fit.{Fit}
 use Rattle.question.specs.Reports.{point_asked, written, report_of}
 use Rattle.question.specs.declared.Outcome.{Outcome}
@@ -28,10 +30,8 @@ use Rattle.held.specs.Test.{is_held}
 use Rattle.lbfgsb.specs.Words.{Words, words}
 use Rattle.lbfgsb.specs.Bridge.{first_of}
 use Rattle.lbfgsb.specs.Did.{Written, taken, Read, Counted}
-use Rattle.lbfgsb.specs.Table.{question_of, question_answer, report_answer, replies_answer, front_entry}
+use Rattle.lbfgsb.specs.Table.{question_of, question_answer, report_answer, replies_answer}
 use Rattle.lbfgsb.specs.Table.{entry_in, entry_kept, short_log, entry_answer, record_in, save_answer}
-use Rattle.lookup.specs.Reading.{Begins}
-use Rattle.lookup.proofs.Entries.{entry_words_lem, entry_room}
 use Rattle.lbfgsb.proofs.Firsts.{first_taken}
 use Rattle.lbfgsb.proofs.Said.{on, off, report_from, entry_from, save_from, question_said, report_said, replies_said, entry_said, save_said}
 use Rattle.lookup.proofs.Saving.{vector_long, record_long}
@@ -67,6 +67,18 @@ short room n o h = rw (lt-ltb room n h)
 
 -- ---- the open question
 
+pub none_asked : (o : Option Kind) {k : ℕ} → ((x : Kind) → o ≡ Some x → ⊥) → kind_number o ≡ k → k ≡ 0
+none_asked None h e = sym e
+none_asked (Some x) h e = absurd (h x refl)
+
+pub number_above : (x : Kind) → kind_number (Some x) ≡ 0 → ⊥
+number_above K.Value e = omega arith
+number_above K.Gradient e = omega arith
+number_above K.Notice e = omega arith
+
+pub some_asked : (o : Option Kind) (x : Kind) {k : ℕ} → o ≡ Some x → kind_number o ≡ k → k ≡ 0 → ⊥
+some_asked o x p e z = number_above x (sym (ap kind_number p) ∙ e ∙ z)
+
 probe_long : (p : G.Probes) (side : M.Side) (i : ℕ) (x : List Float) → length (M.probe_point p side i x) ≡ length x
 probe_long G.Probes.neither side i x = refl
 probe_long (G.Probes.both r l) M.Side.right i x = length-set x i r
@@ -77,7 +89,7 @@ probe_long (G.Probes.left_only l) side i x = length-set x i l
 -- there is one, of this kind and of n coordinates
 record Asks (m : M.Machine) (p : M.Phase) (n : ℕ) : Type 0 where
   q : M.Question
-  is : M.question_in m p ≡ some q
+  is : M.question_in m p ≡ Some q
   kind : q.kind ≡ M.kind_of p
   size : length q.point ≡ n
 
@@ -93,7 +105,7 @@ asks m (M.Phase.probe w i side) n t x k = record {
 asks m M.Phase.notice n t x k = record { q = record { kind = 3; point = m.held.x }; is = refl; kind = refl; size = x }
 asks m (M.Phase.ended t) n h x k = absurd (k refl)
 
-ended : (m : M.Machine) (p : M.Phase) → M.kind_of p ≡ 0 → M.question_in m p ≡ none
+ended : (m : M.Machine) (p : M.Phase) → M.kind_of p ≡ 0 → M.question_in m p ≡ None
 ended m (M.Phase.value w) k = absurd (omega arith)
 ended m (M.Phase.gradient w) k = absurd (omega arith)
 ended m (M.Phase.probe w i side) k = absurd (omega arith)
@@ -112,13 +124,13 @@ module _ (t : Fit) (a : List Float) (l : List ℕ) (out : List Float) where
       → question_of (words t a l) (length out) q ≡ question_answer (words t a l) (length out)
   question_held h {q} e =
       ap (question_of (words t a l) (length out)) (sym e)
-      ∙ sym (on (is_held t a) (question_of (words t a l) (length out) (M.question (machine_of t a))) (H.Answer.asked none) h)
+      ∙ sym (on (is_held t a) (question_of (words t a l) (length out) (M.question (machine_of t a))) (H.Answer.asked None) h)
 
-  pub question_unheld : is_held t a ≡ false → Questioned (H.Answer.asked none) out
+  pub question_unheld : is_held t a ≡ false → Questioned (H.Answer.asked None) out
   question_unheld h =
-      questioned (sym (off (is_held t a) (question_of (words t a l) (length out) (M.question (machine_of t a))) (H.Answer.asked none) h)) (untouched out)
+      questioned (sym (off (is_held t a) (question_of (words t a l) (length out) (M.question (machine_of t a))) (H.Answer.asked None) h)) (untouched out)
 
-  pub question_ended : is_held t a ≡ true → M.kind_of (phase_of t.phase) ≡ 0 → Questioned (H.Answer.asked none) out
+  pub question_ended : is_held t a ≡ true → M.kind_of (phase_of t.phase) ≡ 0 → Questioned (H.Answer.asked None) out
   question_ended h k = questioned (question_held h (ended (machine_of t a) (phase_of t.phase) k)) (untouched out)
 
   question_open : is_held t a ≡ true → (M.kind_of (phase_of t.phase) ≡ 0 → ⊥) → Asks (machine_of t a) (phase_of t.phase) t.shape.n
@@ -129,11 +141,11 @@ module _ (t : Fit) (a : List Float) (l : List ℕ) (out : List Float) where
       → refusal_of c ≡ record { number = 19; first = t.shape.n; second = 0 } → Questioned (H.Answer.refused (refusal_of c)) out
   question_short c h k s e =
       let q = question_open h k in
-      questioned (ap H.Answer.refused e ∙ sym (short (length out) t.shape.n (H.Answer.asked (some q.q)) s) ∙ question_held h q.is) (untouched out)
+      questioned (ap H.Answer.refused e ∙ sym (short (length out) t.shape.n (H.Answer.asked (Some q.q)) s) ∙ question_held h q.is) (untouched out)
 
   pub question_put : (kind : ℕ) (out' : List Float) → is_held t a ≡ true → (kind ≡ 0 → ⊥) → t.shape.n ≤ length out → kind ≡ M.kind_of (phase_of t.phase)
       → out' ≡ written (point_asked (M.question (machine_of t a))) out
-      → Questioned (H.Answer.asked (some (record { kind = kind; point = take t.shape.n out' }))) out'
+      → Questioned (H.Answer.asked (Some (record { kind = kind; point = take t.shape.n out' }))) out'
   question_put kind out' h k r e d =
       let u = question_open h (λ z. k (e ∙ z)) in
       let p = u.q.point in
@@ -142,8 +154,8 @@ module _ (t : Fit) (a : List Float) (l : List ℕ) (out : List Float) where
       let front : take n out' ≡ p = ap (λ (j : ℕ). take j out') (sym u.size) ∙ put_front p out out' is in
       let rest : Written (length p) out out' = put_rest p out out' (omega (arith, u.size)) is in
       questioned
-      (ap₂ (λ (k : ℕ) (v : List Float). H.Answer.asked (some (record { kind = k; point = v }))) (e ∙ sym u.kind) front
-      ∙ sym (fits (length out) n (H.Answer.asked (some u.q)) r)
+      (ap₂ (λ (k : ℕ) (v : List Float). H.Answer.asked (Some (record { kind = k; point = v }))) (e ∙ sym u.kind) front
+      ∙ sym (fits (length out) n (H.Answer.asked (Some u.q)) r)
       ∙ question_held h u.is)
       (rw front rest)
 
@@ -241,42 +253,26 @@ module _ (t : Fit) (a : List Float) (l : List ℕ) (k : ℕ) (out : List ℕ) wh
       let none_kept : entry_kept (words t a l) k ≡ [] = rw (le-ltb k t.extra.entries s) in
       entered_by (entry_held [] h r none_kept (sym (fits (length out) 0 (H.Answer.entered []) (omega arith)))) (untouched out)
 
-  -- the words from `at` on are those of entry k
-  entry_found : (at size : ℕ) → t.extra.words ≤ length l → k < t.extra.entries → Begins t.shape.n k (take t.extra.words l) at
-      → size ≡ length (front_entry t.shape.n (drop at (take t.extra.words l))) → entry_kept (words t a l) k ≡ take size (drop at l)
-  entry_found at size r s b e =
-      let kept : entry_kept (words t a l) k ≡ entry_in t.shape.n k (take t.extra.words l) = rw (lt-ltb k t.extra.entries s) in
-      kept ∙ sym (entry_words_lem t.shape.n k l t.extra.words at size r b e)
+  -- the words of entry k, which is there
+  entry_found : k < t.extra.entries → entry_kept (words t a l) k ≡ entry_in t.shape.n k (take t.extra.words l)
+  entry_found s = rw (lt-ltb k t.extra.entries s)
 
-  found_long : (at size : ℕ) → t.extra.words ≤ length l → Begins t.shape.n k (take t.extra.words l) at
-      → size ≡ length (front_entry t.shape.n (drop at (take t.extra.words l))) → length (take size (drop at l)) ≡ size
-  found_long at size r b e = length-take-le size (drop at l) (omega (arith, entry_room t.shape.n k l t.extra.words at size r b e, length-drop at l))
-
-  pub entry_short : (c : Refusal) (at size : ℕ) → is_held t a ≡ true → t.extra.words ≤ length l → k < t.extra.entries
-      → Begins t.shape.n k (take t.extra.words l) at
-      → size ≡ length (front_entry t.shape.n (drop at (take t.extra.words l))) → length out < size
-      → refusal_of c ≡ record { number = 19; first = size; second = 0 } → Entered (H.Answer.refused (refusal_of c)) out
-  entry_short c at size h r s b e z d =
-      let long = found_long at size r b e in
+  pub entry_short : (c : Refusal) (v : List ℕ) → is_held t a ≡ true → t.extra.words ≤ length l → k < t.extra.entries
+      → v ≡ entry_in t.shape.n k (take t.extra.words l) → length out < length v
+      → refusal_of c ≡ record { number = 19; first = length v; second = 0 } → Entered (H.Answer.refused (refusal_of c)) out
+  entry_short c v h r s e z d =
       entered_by
-      (entry_held (take size (drop at l)) h r (entry_found at size r s b e)
-      (ap H.Answer.refused d
-      ∙ sym (ap (λ (j : ℕ). refused_by (output_short (length out) j) (H.Answer.entered (take size (drop at l)))) long
-      ∙ short (length out) size (H.Answer.entered (take size (drop at l))) z)))
+      (entry_held v h r (entry_found s ∙ sym e) (ap H.Answer.refused d ∙ sym (short (length out) (length v) (H.Answer.entered v) z)))
       (untouched out)
 
-  pub entry_put : (at size : ℕ) (out' : List ℕ) → is_held t a ≡ true → t.extra.words ≤ length l → k < t.extra.entries
-      → Begins t.shape.n k (take t.extra.words l) at
-      → size ≡ length (front_entry t.shape.n (drop at (take t.extra.words l))) → size ≤ length out → out' ≡ written (take size (drop at l)) out
-      → Entered (H.Answer.entered (first_of size out')) out'
-  entry_put at size out' h r s b e z d =
-      let v = take size (drop at l) in
-      let long : length v ≡ size = found_long at size r b e in
-      let front : first_of size out' ≡ v = put_first v out out' size long z d in
-      let rest : Written (length v) out out' = put_rest v out out' (omega (arith, long)) d in
+  pub entry_put : (v : List ℕ) (out' : List ℕ) → is_held t a ≡ true → t.extra.words ≤ length l → k < t.extra.entries
+      → v ≡ entry_in t.shape.n k (take t.extra.words l) → length v ≤ length out → out' ≡ written v out
+      → Entered (H.Answer.entered (first_of (length v) out')) out'
+  entry_put v out' h r s e z d =
+      let front : first_of (length v) out' ≡ v = put_first v out out' (length v) refl z d in
+      let rest : Written (length v) out out' = put_rest v out out' z d in
       entered_by
-      (entry_held v h r (entry_found at size r s b e)
-      (ap H.Answer.entered front ∙ sym (fits (length out) (length v) (H.Answer.entered v) (omega (arith, long)))))
+      (entry_held v h r (entry_found s ∙ sym e) (ap H.Answer.entered front ∙ sym (fits (length out) (length v) (H.Answer.entered v) z)))
       (rw front rest)
 
 -- ---- the record

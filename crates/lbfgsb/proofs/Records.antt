@@ -5,7 +5,7 @@ use mathlib.Core.Path.{◌≡◌, sym, ap, ◌∙◌, subst}
 use mathlib.Core.Bool.{false≢true}
 use mathlib.Core.List.{List, ◌++◌}
 use mathlib.Core.Logic.{◌≢◌}
-use mathlib.Core.Option.{none, some}
+use Rattle.std.specs.Prelude.{None, Some}
 use lib.ListN.{length, get_or, set}
 use Rattle.definition.specs.Problem.{Check, area_needed}
 use Rattle.definition.specs.Book.{Book, log_of}
@@ -25,8 +25,8 @@ saved_is : (z : Lengths) (b : Book) (room : ℕ) (bs : List ℕ) → Answer.save
 saved_is z b room bs e = go (call_row z (History.fit b) (Call.save room)).check e
   where
     go : (c : Check) → Answer.saved bs ≡ refused_by c (Answer.saved (record_bytes b)) → bs ≡ record_bytes b
-    go none q = ap numbers_of q
-    go (some r) q = absurd (false≢true (ap is_refused q))
+    go None q = ap numbers_of q
+    go (Some r) q = absurd (false≢true (ap is_refused q))
 
 -- what a record is read as is what the words hold after it
 record Reads (d : Reading) (x u : Words) (o : Answer) : Type 0 where

@@ -2,7 +2,7 @@
 use Prim.Native.Nat.{ℕ, ◌+◌, ◌-◌, ◌*◌}
 use native.Mathlib.Omega.{arith}
 use mathlib.Core.Path.{◌≡◌, refl, sym, ap, ap₂, ◌∙◌, subst}
-use mathlib.Core.Logic.{inl, ⊎_elim}
+use mathlib.Core.Logic.{◌⊎◌, inl, inr, ⊎_elim}
 use mathlib.Core.List.{List}
 use lib.ListN.{length, drop, length-append, length-drop, length-replicate}
 use lib.Seq.{take_at}
@@ -15,20 +15,17 @@ use Rattle.definition.specs.History as H
 use Rattle.definition.specs.History.{History, restored, restored_answer}
 use Rattle.definition.proofs.Bytes.{words_of-length}
 use Rattle.problem.specs.Setups.{refusal_of}
+use Rattle.std.specs.Prelude.{Result, Ok, Err}
 use Rattle.problem.specs.declared.Options.{Options}
-use Rattle.problem.specs.declared.Refusal as Q
+use Rattle.problem.specs.declared.Refusal.{Refusal}
+use Rattle.problem.specs.declared.Refusal.TheVariants.{LogShort, Malformed}
 use Rattle.fit.specs.declared.Fit.{Fit}
 use Rattle.held.proofs.Test.{zeroed_unheld}
 use Rattle.record.specs.declared.Frame.{Frame}
-use Rattle.record.specs.declared.Parsed.{Parsed}
-use Rattle.record.specs.declared.Parsed.TheVariants as D
-use Rattle.record.specs.Records.{Opens, Parsing}
+use Rattle.record.specs.Records.{Opens}
 use Rattle.replay.specs.Replays.{ReplayedTo}
-use Rattle.replay.specs.declared.Replayed.{Replayed}
-use Rattle.replay.specs.declared.Replayed.TheVariants as R
-use Rattle.lbfgsb.specs.declared.Answer.{Answer}
 use Rattle.lbfgsb.specs.Words.{Words, words, lengths, Holds}
-use Rattle.lbfgsb.specs.Bridge.{next, next_by, kept, kept_by}
+use Rattle.lbfgsb.specs.Bridge.{next, kept}
 use Rattle.lbfgsb.specs.Did.{Restores, Restored}
 use Rattle.rebuild.specs.Built.{headed, Built, Unbuilt, Builds, Reloads}
 use Rattle.held.proofs.Laws.{reached_held}
@@ -58,19 +55,15 @@ restores bs w w' o d e z a r =
       restores = subst (λ (x : Reading). Restores x w w') (sym e) r;
     }
 
--- ahead of the entries: every word stays
-restore_refused : (bs : List ℕ) (w : Words) (c : Q.Refusal) → read_record (lengths w) bs ≡ Reading.refused (refusal_of c)
+-- refused ahead of the entries: every word stays
+pub restore_refused : (bs : List ℕ) (w : Words) (c : Refusal) → read_record (lengths w) bs ≡ Reading.refused (refusal_of c)
     → Restored bs w w (H.Answer.refused (refusal_of c))
 restore_refused bs w c e = restores bs w w (H.Answer.refused (refusal_of c)) (Reading.refused (refusal_of c)) e refl refl refl
 
--- ---- by the answer of the checks ahead of the entries
-
-pub parsed_refused : (bs : List ℕ) (w : Words) (p : Parsed) (c : Q.Refusal) → p ≡ D.Refused c → Parsing bs (length w.area) p
-    → Restored bs w w (H.Answer.refused (refusal_of c))
-parsed_refused bs w p c e h = restore_refused bs w c (subst (Parsing bs (length w.area)) e h (length w.log))
-
-pub parsed_opens : (bs : List ℕ) (size : ℕ) (p : Parsed) (o : Options) (f : Frame) → p ≡ D.Setup o f → Parsing bs size p → Opens bs size o f
-parsed_opens bs size p o f e h = subst (Parsing bs size) e h
+-- the refusals of an entry have no details
+plain : {A : Type 0} (c : Refusal) → (c ≡ Malformed) ⊎ ((c ≡ LogShort) × A) → refusal_of c ≡ plain_refusal (refusal_of c).number
+plain c (inl e) = rw e refl
+plain c (inr e) = rw e.0 refl
 
 module _ (bs : List ℕ) (g : Fit) (a : List Float) (l : List ℕ) (o : Options) (f : Frame) (h : Opens bs (length a) o f) where
   abbrev limit : ℕ
@@ -128,27 +121,26 @@ module _ (bs : List ℕ) (g : Fit) (a : List Float) (l : List ℕ) (o : Options)
           log = ap (λ (ws : List ℕ). headed ws l) logged;
         })
 
-  module _ (number : ℕ) (b : List Float) (k : Unbuilt (setup bs (length a) o f h) (entries bs (length a) o f h) limit (length l) (length a) number b) where
-    restore_zeroed : Restored bs (words g a l) (words g b l) (H.Answer.refused (plain_refusal number))
+  module _ (c : Refusal) (b : List Float) (k : Unbuilt (setup bs (length a) o f h) (entries bs (length a) o f h) limit (length l) (length a) c b) where
+    abbrev number : ℕ
+    number = (refusal_of c).number
+
+    restore_zeroed : Restored bs (words g a l) (words g b l) (H.Answer.refused (refusal_of c))
     restore_zeroed =
-        restores bs (words g a l) (words g b l) (H.Answer.refused (plain_refusal number)) (Reading.refused_at_entry (plain_refusal number))
+        restores bs (words g a l) (words g b l) (H.Answer.refused (refusal_of c)) (Reading.refused_at_entry (plain_refusal number))
         (reading bs (length a) o f h (length l)
         ∙ ap (reading_of (setup bs (length a) o f h))
         (refused_read (setup bs (length a) o f h) (entries bs (length a) o f h) limit (length l) number (omega (arith, entries_long bs (length a) o f h))
         (k.is (inl h.accepted))))
         (ap (λ (x : ℕ). record { area = x; log = length l }) (ap length k.area ∙ length-replicate (length a) zero64))
-        refl
+        (ap H.Answer.refused (plain c k.which))
         (ap (λ (x : List Float). words g x l) k.area)
 
   -- ---- by what is built
 
-  built_restored : (q : Replayed) (b : List Float) (m : List ℕ) → Builds (setup bs (length a) o f h) (entries bs (length a) o f h) limit (length l) a q b
-      → Reloads q bs f l m → Restored bs (words g a l) (words (next_by g q) b m) (kept_by q)
-  built_restored (R.Done t) b m k z = subst (λ (x : List ℕ). Restored bs (words g a l) (words t b x) H.Answer.done) (sym z) (restore_kept t b k)
-  built_restored (R.Refused i) b m k z =
-      subst (λ (x : List ℕ). Restored bs (words g a l) (words g b x) (H.Answer.refused (plain_refusal i))) (sym z) (restore_zeroed i b k)
-
-  pub answered_restored : (q : Replayed) (p : Answer) (b : List Float) (m : List ℕ) → ((t : Fit) → next t p ≡ next_by t q) × (kept p ≡ kept_by q)
-      → Builds (setup bs (length a) o f h) (entries bs (length a) o f h) limit (length l) a q b × Reloads q bs f l m
-      → Restored bs (words g a l) (words (next g p) b m) (kept p)
-  answered_restored q p b m e k = rw (e.0 g, e.1) (built_restored q b m k.0 k.1)
+  pub built_restored : (q : Result Fit Refusal) (b : List Float) (m : List ℕ)
+      → Builds (setup bs (length a) o f h) (entries bs (length a) o f h) limit (length l) a q b → Reloads q bs f l m
+      → Restored bs (words g a l) (words (next g q) b m) (kept q)
+  built_restored (Ok t) b m k z = subst (λ (x : List ℕ). Restored bs (words g a l) (words t b x) H.Answer.done) (sym z) (restore_kept t b k)
+  built_restored (Err c) b m k z =
+      subst (λ (x : List ℕ). Restored bs (words g a l) (words g b x) (H.Answer.refused (refusal_of c))) (sym z) (restore_zeroed c b k)

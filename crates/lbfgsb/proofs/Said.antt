@@ -3,7 +3,7 @@ use Prim.Native.Nat.{ℕ}
 use mathlib.Core.Path.{◌≡◌, refl, ap, ap₂, ◌∙◌}
 use mathlib.Core.Bool.{Bool, true, false, cond}
 use mathlib.Core.List.{List, [], ◌++◌}
-use mathlib.Core.Option.{Option, none, some}
+use Rattle.std.specs.Prelude.{Option, None, Some}
 use lib.Dec.{ltb}
 use lib.ListN.{length}
 use Rattle.definition.specs.Problem.{Setup, Terms, Check, refuse, when, ◌then◌, dimension}
@@ -33,15 +33,15 @@ coordinates {w} {b} h = ap (λ (x : Terms). x.n) (ap (λ (m : M.Machine). m.term
 -- ---- the answer by any words is the history's
 
 pub question_said : (w : Words) (room : ℕ) (h : History) → Holds w h → question_answer w room ≡ history_answer (lengths w) h (Call.question room)
-question_said w room History.empty h = off (is_held w.state w.area) (question_of w room (M.question (machine_in w))) (H.Answer.asked none) h
+question_said w room History.empty h = off (is_held w.state w.area) (question_of w room (M.question (machine_in w))) (H.Answer.asked None) h
 question_said w room (History.fit b) h =
-    on (is_held w.state w.area) (question_of w room (M.question (machine_in w))) (H.Answer.asked none) h.stands.test
+    on (is_held w.state w.area) (question_of w room (M.question (machine_in w))) (H.Answer.asked None) h.stands.test
     ∙ ap (λ (m : M.Machine). question_of w room (M.question m)) h.stands.is
     ∙ go (M.question (run_of b))
   where
     go : (q : Option M.Question) → question_of w room q ≡ refused_by (check_question b room q) (H.Answer.asked q)
-    go none = refl
-    go (some q) = ap (λ (n : ℕ). refused_by (output_short room n) (H.Answer.asked (some q))) (coordinates h)
+    go None = refl
+    go (Some q) = ap (λ (n : ℕ). refused_by (output_short room n) (H.Answer.asked (Some q))) (coordinates h)
 
 -- the report of the machine m with n coordinates
 abbrev pub report_from : ℕ → ℕ → M.Machine → H.Answer

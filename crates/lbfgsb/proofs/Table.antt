@@ -5,7 +5,7 @@ use mathlib.Core.Path.{◌≡◌, refl}
 use mathlib.Core.Bool.{true, false}
 use mathlib.Core.List.{List}
 use mathlib.Core.Logic.{◌≢◌}
-use mathlib.Core.Option.{Option, none, some}
+use Rattle.std.specs.Prelude.{Option, None, Some}
 use lib.Dec.{ltb}
 use lib.ListN.{length}
 use borrow.Author.Tests.{lt-ltb, le-ltb, ne_eqb}
@@ -45,8 +45,8 @@ back_numbered j w = answered _ _ (back_checks w j) (by_test N (is_held w.state w
     N = AnswerNumbered (refusals_of (Call.take_back j))
 
     stays : (q : Option (List Reply)) → N (stay_answer q)
-    stays (some rs) = tt
-    stays none = refl
+    stays (Some rs) = tt
+    stays None = refl
 
 question_numbered : (room : ℕ) (w : Words) → AnswerNumbered (refusals_of (Call.question room)) (answer_at (Call.question room) w)
 question_numbered room w = by_test N (is_held w.state w.area) (λ _. go (question (machine_in w))) (λ _. tt)
@@ -55,15 +55,15 @@ question_numbered room w = by_test N (is_held w.state w.area) (λ _. go (questio
     N = AnswerNumbered (refusals_of (Call.question room))
 
     go : (q : Option Question) → N (question_of w room q)
-    go none = tt
-    go (some q) = answered {numbers = refusals_of (Call.question room)} _ (Answer.asked (some q)) (short room w.state.shape.n refl) tt
+    go None = tt
+    go (Some q) = answered {numbers = refusals_of (Call.question room)} _ (Answer.asked (Some q)) (short room w.state.shape.n refl) tt
 
 report_numbered : (room : ℕ) (w : Words) → AnswerNumbered (refusals_of (Call.report room)) (answer_at (Call.report room) w)
 report_numbered room w =
-    let none = unreported (machine_in w).phase in
+    let None = unreported (machine_in w).phase in
     let n = w.state.shape.n in
     by_test (AnswerNumbered (refusals_of (Call.report room))) (is_held w.state w.area)
-    (λ _. answered {numbers = refusals_of (Call.report room)} _ _ (both (when none (refuse 15 0 0)) (output_short room n) (tested none 15 0 0 refl) (short room n refl)) tt)
+    (λ _. answered {numbers = refusals_of (Call.report room)} _ _ (both (when None (refuse 15 0 0)) (output_short room n) (tested None 15 0 0 refl) (short room n refl)) tt)
     (λ _. refl)
 
 -- a read of the log, which needs so many elements of its output
@@ -90,10 +90,10 @@ answer_numbered (Call.save room) w = log_read (refusals_of (Call.save room)) w r
 -- ---- the order printed, at any words
 
 -- start: the setup's row whatever the area's length is, then 11; restore: as the definition reads the record; neither looks at what the words hold
-pub setup_first : (w : Words) (s : Setup) (r : Refusal) → validate s ≡ some r → answer_at (Call.start s) w ≡ Answer.refused r
+pub setup_first : (w : Words) (s : Setup) (r : Refusal) → validate s ≡ Some r → answer_at (Call.start s) w ≡ Answer.refused r
 setup_first w s r e = rw e refl
 
-pub area_last : (w : Words) (s : Setup) → validate s ≡ none → length w.area < area_needed s
+pub area_last : (w : Words) (s : Setup) → validate s ≡ None → length w.area < area_needed s
     → answer_at (Call.start s) w ≡ Answer.refused (record { number = 11; first = area_needed s; second = 0 })
 area_last w s e l = rw (e, lt-ltb (length w.area) (area_needed s) l) refl
 
@@ -111,7 +111,7 @@ module _ (w : Words) (held : is_held w.state w.area ≡ true) where
       → answer_at (Call.reply (Reply.gradient ws)) w ≡ Answer.refused (record { number = 14; first = w.state.shape.n; second = length ws })
   length_second ws e k = rw (held, e, ne_eqb (length ws) w.state.shape.n k) refl
 
-  pub room_last : (r : Reply) → check_due (machine_in w) r ≡ none → length w.log < w.state.extra.words + length (entry_words r)
+  pub room_last : (r : Reply) → check_due (machine_in w) r ≡ None → length w.log < w.state.extra.words + length (entry_words r)
       → answer_at (Call.reply r) w ≡ Answer.refused (plain_refusal 12)
   room_last r e l = rw (held, e, lt-ltb (length w.log) (w.state.extra.words + length (entry_words r)) l) refl
 
@@ -123,7 +123,7 @@ module _ (w : Words) (held : is_held w.state w.area ≡ true) where
       → answer_at (Call.take_back j) w ≡ Answer.refused (plain_refusal 12)
   short_before_entries j l s = rw (held, le-ltb w.state.extra.entries j l, lt-ltb (length w.log) w.state.extra.words s) refl
 
-  pub bad_entry_last : (j : ℕ) → j ≤ w.state.extra.entries → w.state.extra.words ≤ length w.log → replies_left j w ≡ none
+  pub bad_entry_last : (j : ℕ) → j ≤ w.state.extra.entries → w.state.extra.words ≤ length w.log → replies_left j w ≡ None
       → answer_at (Call.take_back j) w ≡ Answer.refused (plain_refusal 17)
   bad_entry_last j l s e = rw (held, le-ltb w.state.extra.entries j l, le-ltb (length w.log) w.state.extra.words s, e) refl
 

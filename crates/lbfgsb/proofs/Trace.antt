@@ -22,7 +22,7 @@ use Rattle.definition.specs.Book.{Book}
 use Rattle.definition.specs.Record.{Lengths}
 use Rattle.definition.specs.Sound.{Sound}
 use Rattle.definition.specs.History.{Call, Answer, History}
-use Rattle.problem.specs.Setups.{setup_in}
+use Rattle.problem.specs.Setups.{setup_of}
 use Rattle.lbfgsb.specs.Words.{Words, words, lengths, Held, Holds}
 use Rattle.lbfgsb.specs.Bridge.{replied, next, kept, asked, told, entered, saved}
 use Rattle.lbfgsb.specs.Did.{Did, Opening}
@@ -94,9 +94,9 @@ exported = record {
 
 pub data Called : Call → Words → Words → Answer → Type 0 where
   by_start :
-      (κs : Lfts 4) (a : Dens κs start-kinds.ps) (z : (res_t start-kinds.r κs).Denot) (e : AtExit (ended_of 4 start-kinds.ps start-kinds.r) κs) (log : List ℕ)
+      (κs : Lfts 2) (a : Dens κs start-kinds.ps) (z : (res_t start-kinds.r κs).Denot) (e : AtExit (ended_of 2 start-kinds.ps start-kinds.r) κs) (log : List ℕ)
       → start-reads.Learnt κs a z e
-      → Called (Call.start (setup_in a.1.1.0 a.1.1.1.0.now a.1.1.1.1.0.now a.1.1.1.1.1.0.now))
+      → Called (Call.start (setup_of a.1.1.0))
       (words a.0 a.1.0.now log) (words (next a.0 z) e.1.0.now log) (kept z)
   by_restore :
       (κs : Lfts 3) (a : Dens κs restore-kinds.ps) (z : (res_t restore-kinds.r κs).Denot) (e : AtExit (ended_of 3 restore-kinds.ps restore-kinds.r) κs)

@@ -5,7 +5,7 @@ use native.Mathlib.Omega.{arith}
 use mathlib.Core.Path.{◌≡◌, sym, subst}
 use mathlib.Core.Bool.{Bool, true, false}
 use mathlib.Core.List.{List}
-use mathlib.Core.Option.{Option, none}
+use Rattle.std.specs.Prelude.{Option, None}
 use lib.ListN.{replicate}
 use lib.Ieee.{Float, fits}
 use contract.Lifetimes.{Lfts}
@@ -16,12 +16,13 @@ use Rattle.definition.specs.Record.{word_size}
 use Rattle.definition.specs.Values.{Each, Given, Bytes, Words as WordsOf, Binary64, BoxFloats, SetupFloats, Brings}
 use Rattle.definition.specs.Log.{entry_words}
 use Rattle.definition.specs.History.{Call, Answer}
-use Rattle.problem.specs.Setups.{float_of, bounds_in}
+use Rattle.problem.specs.Setups.{bounds_in}
 use Rattle.problem.specs.declared.Options.{Options}
+use Rattle.problem.specs.declared.Setup.{Setup}
 use Rattle.driver.specs.declared.Reply.{Reply}
 use Rattle.driver.specs.declared.Reply.TheVariants as R
 use Rattle.lbfgsb.specs.Words.{Words}
-use Rattle.lbfgsb.specs.Bridge.{setup_in, replied}
+use Rattle.lbfgsb.specs.Bridge.{setup_of, replied}
 use Rattle.lbfgsb.specs.Chain.{Chain}
 use Rattle.lbfgsb.proofs.Trace.{Called, by_start, by_restore, by_reply, by_take_back, by_question, by_report, by_replies, by_entry, by_save}
 use Rattle.lbfgsb.proofs.start.Kinds as start-kinds
@@ -34,10 +35,13 @@ use Rattle.lbfgsb.proofs.reply.Reads as reply-reads
 -- ---- the arguments
 
 pub record OptionFloats (o : Options) : Type 0 where
-  pub tol : Given Binary64 (float_of o.tol)
-  pub ftol : Given Binary64 (float_of o.ftol)
-  pub gtol : Given Binary64 (float_of o.gtol)
-  pub eps : Given Binary64 (float_of o.eps)
+  pub tol : Given Binary64 o.tol
+  pub ftol : Given Binary64 o.ftol
+  pub gtol : Given Binary64 o.gtol
+  pub eps : Given Binary64 o.eps
+
+abbrev pub SetupWords : Setup → Type 0
+SetupWords s = OptionFloats s.options × Each Binary64 s.x0.now × Each Binary64 s.lower.now × Each Binary64 s.upper.now
 
 abbrev pub ReplyWord : Reply → Type 0
 ReplyWord (R.Value w) = w < word_size
@@ -49,8 +53,7 @@ ReplyWord R.Failure = Unit {0}
 
 -- of a call of an exported function, those that its history is fed
 abbrev pub Typed : {c : Call} {w w' : Words} {o : Answer} → Called c w w' o → Type 0
-Typed (by_start κs a z e log l) =
-    OptionFloats a.1.1.0 × Each Binary64 a.1.1.1.0.now × Each Binary64 a.1.1.1.1.0.now × Each Binary64 a.1.1.1.1.1.0.now
+Typed (by_start κs a z e log l) = SetupWords a.1.1.0
 Typed (by_restore κs a z e l) = Bytes a.1.1.1.0.now
 Typed (by_reply κs a z e l) = ReplyWord a.1.1.1.0 × WordsOf a.1.1.1.1.0.now
 Typed (by_take_back κs a z e l) = Unit {0}
@@ -71,8 +74,15 @@ box_floats : (bounded : Bool) (l u : List Float) → Each Binary64 l → Each Bi
 box_floats true l u p q = (p, q)
 box_floats false l u p q = tt
 
-setup_floats : (o : Options) (x l u : List Float) → OptionFloats o → Each Binary64 x → Each Binary64 l → Each Binary64 u → SetupFloats (setup_in o x l u)
-setup_floats o x l u h p q r = record { x0 = p; bounds = box_floats o.bounded l u q r; tol = h.tol; ftol = h.ftol; gtol = h.gtol; eps = h.eps }
+setup_floats : (s : Setup) → SetupWords s → SetupFloats (setup_of s)
+setup_floats s h = record {
+  x0 = h.1;
+  bounds = box_floats s.options.bounded s.lower.now s.upper.now h.2 h.3;
+  tol = h.0.tol;
+  ftol = h.0.ftol;
+  gtol = h.0.gtol;
+  eps = h.0.eps;
+}
 
 reply_words : (r : Reply) (ws : List ℕ) → ReplyWord r → WordsOf ws → WordsOf (entry_words (replied r ws))
 reply_words (R.Value w) ws h k = (omega arith, (h, tt))
@@ -83,8 +93,7 @@ reply_words R.Stop ws h k = (omega arith, tt)
 reply_words R.Failure ws h k = (omega arith, tt)
 
 brings : {c : Call} {w w' : Words} {o : Answer} (d : Called c w w' o) → Typed d → Brings c
-brings (by_start κs a z e log l) h =
-    setup_floats a.1.1.0 a.1.1.1.0.now a.1.1.1.1.0.now a.1.1.1.1.1.0.now h.0 h.1 h.2 h.3
+brings (by_start κs a z e log l) h = setup_floats a.1.1.0 h
 brings (by_restore κs a z e l) h = h
 brings (by_reply κs a z e l) h = reply_words a.1.1.1.0 a.1.1.1.1.0.now h.0 h.1
 brings (by_take_back κs a z e l) h = tt
@@ -109,23 +118,23 @@ unfolding fits
 zero_binary64 = tt
 
 abbrev NoneGiven : Options → Type 0
-NoneGiven o = (float_of o.tol ≡ none) × (float_of o.ftol ≡ none) × (float_of o.gtol ≡ none) × (float_of o.eps ≡ none)
+NoneGiven o = (o.tol ≡ None) × (o.ftol ≡ None) × (o.gtol ≡ None) × (o.eps ≡ None)
 
 pub zeros_started :
-    (κs : Lfts 4) (a : Dens κs start-kinds.ps) (z : (res_t start-kinds.r κs).Denot) (e : AtExit (ended_of 4 start-kinds.ps start-kinds.r) κs)
+    (κs : Lfts 2) (a : Dens κs start-kinds.ps) (z : (res_t start-kinds.r κs).Denot) (e : AtExit (ended_of 2 start-kinds.ps start-kinds.r) κs)
     (log : List ℕ) (l : start-reads.Learnt κs a z e) (n : ℕ)
-    → NoneGiven a.1.1.0 → a.1.1.1.0.now ≡ replicate n zero64 → a.1.1.1.1.0.now ≡ replicate n zero64
-    → a.1.1.1.1.1.0.now ≡ replicate n zero64 → Typed (by_start κs a z e log l)
+    → NoneGiven a.1.1.0.options → a.1.1.0.x0.now ≡ replicate n zero64 → a.1.1.0.lower.now ≡ replicate n zero64
+    → a.1.1.0.upper.now ≡ replicate n zero64 → Typed (by_start κs a z e log l)
 zeros_started κs a z e log l n g x low up =
-    let given : (o : Option Float) → o ≡ none → Given Binary64 o = λ o h. subst (Given Binary64) (sym h) tt in
+    let given : (o : Option Float) → o ≡ None → Given Binary64 o = λ o h. subst (Given Binary64) (sym h) tt in
     let zeros : (v : List Float) → v ≡ replicate n zero64 → Each Binary64 v
     = λ v h. subst (Each Binary64) (sym h) (each_same Binary64 zero64 zero_binary64 n) in
-    let o = a.1.1.0 in (
+    let o = a.1.1.0.options in (
       record {
-        tol = given (float_of o.tol) g.0;
-        ftol = given (float_of o.ftol) g.1;
-        gtol = given (float_of o.gtol) g.2;
-        eps = given (float_of o.eps) g.3;
+        tol = given o.tol g.0;
+        ftol = given o.ftol g.1;
+        gtol = given o.gtol g.2;
+        eps = given o.eps g.3;
       },
       zeros _ x,
       zeros _ low,

@@ -3,7 +3,7 @@
 -- and the crate `script` what is known of each of its steps (`Did.Stepped`).
 -- The history is document 01's book (`history_after`, from the empty one), its replies newest first; `in_order` has them in the order given.
 use Rattle.std.specs.Prelude.{ℕ, ◌+◌, ◌-◌, ◌*◌, ◌≤◌, ◌<◌, ◌≡◌, Bool, true, false, cond, ◌↔◌, ◌⊎◌, List, [], ◌∷◌, ◌++◌, T, length, take, drop, replicate, Float}
-use Rattle.std.proofs.Math.Option.{Option, none, some}
+use Rattle.std.specs.Prelude.{Option, None, Some}
 use Rattle.std.specs.Float.Ieee as Ieee
 use Rattle.std.specs.Float.Ieee.Scale.{finite}
 use Rattle.definition.specs.Number.{to_float, zero64}
@@ -81,7 +81,7 @@ pub record Keeps (D : Call → Words → Words → Answer → Type 0) (w : Words
 
 -- What calls find in words with no fit: there is no open question, and a saving writes nothing.
 pub record KeepsNone (D : Call → Words → Words → Answer → Type 0) (w : Words) : Type 0 where
-  pub question : {room : ℕ} {o : Answer} {v : Words} → D (Call.question room) w v o → o ≡ Answer.asked none
+  pub question : {room : ℕ} {o : Answer} {v : Words} → D (Call.question room) w v o → o ≡ Answer.asked None
   pub report : {room : ℕ} {o : Answer} {v : Words} → D (Call.report room) w v o → o ≡ Answer.refused (plain_refusal 15)
   pub reply : {r : Reply} {o : Answer} {v : Words} → D (Call.reply r) w v o → o ≡ Answer.refused (plain_refusal 13)
   pub back : {j : ℕ} {o : Answer} {v : Words} → D (Call.take_back j) w v o → 0 < j → o ≡ Answer.refused (plain_refusal 16)
@@ -140,8 +140,8 @@ ReadIn (Reading.refused_at_entry c) w' = ⊥
 
 -- the setup held, and the replies that are to stay
 abbrev pub Stay : Option (List Reply) → Words → Words → Type 0
-Stay none w w' = ⊥
-Stay (some rs) w w' = Stands w' (book (setup_of w) rs)
+Stay None w w' = ⊥
+Stay (Some rs) w w' = Stands w' (book (setup_of w) rs)
 
 -- what a call that is not refused leaves: the definition's machine of the setup and the replies kept, read off state, area and log; a read leaves every word
 abbrev pub Result : Call → Words → Words → Type 0
@@ -212,8 +212,8 @@ pub record Leaves (c : Call) (w w' : Words) : Type 0 where
 abbrev pub floats_of : Answer → List Float
 floats_of (Answer.refused r) = []
 floats_of Answer.done = []
-floats_of (Answer.asked none) = []
-floats_of (Answer.asked (some q)) = q.point
+floats_of (Answer.asked None) = []
+floats_of (Answer.asked (Some q)) = q.point
 floats_of (Answer.reported r) = r.point
 floats_of (Answer.counted k) = []
 floats_of (Answer.entered ws) = []
@@ -237,7 +237,7 @@ Output front out out' = out' ≡ front ++ drop (length front) out
 -- at most 2 maxfev + maxiter replies, and with that many the fit has ended
 pub record Bounded (s : Setup) (rs : List Reply) : Type 0 where
   pub most : length rs ≤ 2 * (limits_of s).maxfev + (limits_of s).maxiter
-  pub ended : length rs ≡ 2 * (limits_of s).maxfev + (limits_of s).maxiter → question_of (run s rs) ≡ none
+  pub ended : length rs ≡ 2 * (limits_of s).maxfev + (limits_of s).maxiter → question_of (run s rs) ≡ None
 
 -- ---- the fit, once there is a value reply and no failure
 
@@ -253,8 +253,8 @@ pub record Fitted (s : Setup) (rs : List Reply) (r : Report) : Type 0 where
   -- the value is the reply to that point's own question: at the start the first value reply, at a trial the reply to that trial
   pub own : OwnOf (last_taken s rs) s rs r.point r.value
   -- there is a first reply, and the value is not above it where it is finite
-  pub first : (w : ℕ) × (first_value rs ≡ some w)
-  pub below : (w : ℕ) → first_value rs ≡ some w → T (finite (to_float w)) → T (finite r.value) × T (Ieee.le r.value (to_float w))
+  pub first : (w : ℕ) × (first_value rs ≡ Some w)
+  pub below : (w : ℕ) → first_value rs ≡ Some w → T (finite (to_float w)) → T (finite r.value) × T (Ieee.le r.value (to_float w))
   -- each coordinate lies within its bounds, so none is a NaN
   pub box : InBox (terms_of s) r.point
   pub number : (i : ℕ) → i < dimension s → Ieee.is_nan (word r.point i) ≡ false

@@ -1,7 +1,7 @@
 -- What each exported operation does: with any words at all, and with words that hold a history. One record is one operation's contract.
 -- At any words the answer is the table's (`answer_at`, specs/Table.antt), and the words after are said; docs/PROOFS.md has the theorem that rests on each field.
 use Rattle.std.specs.Prelude.{ℕ, ◌+◌, ◌-◌, ◌≤◌, ◌≡◌, cond, List, ◌++◌, length, take, drop, replicate}
-use Rattle.std.proofs.Math.Option.{Option, none, some}
+use Rattle.std.specs.Prelude.{Option, None, Some}
 use Rattle.definition.specs.Problem as P
 use Rattle.definition.specs.Problem.{Refusal, Check}
 use Rattle.definition.specs.Machine as M
@@ -102,13 +102,13 @@ pub record Taken (rs : List M.Reply) (w w' : Words) : Type 0 where
 
 -- by the replies that are to stay
 abbrev pub TakesReplies : Option (List M.Reply) → Words → Words → Type 0
-TakesReplies (some rs) w w' = Taken rs w w'
-TakesReplies none w w' = w' ≡ zeroed w
+TakesReplies (Some rs) w w' = Taken rs w w'
+TakesReplies None w w' = w' ≡ zeroed w
 
 -- 16 and 12 leave every word, and so does a taking back where no fit is held
 abbrev pub TakesBack : ℕ → Check → Words → Words → Type 0
-TakesBack j (some r) w w' = w' ≡ w
-TakesBack j none w w' = cond (is_held w.state w.area) (TakesReplies (replies_left j w) w w') (w' ≡ w)
+TakesBack j (Some r) w w' = w' ≡ w
+TakesBack j None w w' = cond (is_held w.state w.area) (TakesReplies (replies_left j w) w w') (w' ≡ w)
 
 pub record TakenBack (j : ℕ) (w w' : Words) (o : H.Answer) : Type 0 where
   pub did : Did (Call.take_back j) w w' o
@@ -121,8 +121,8 @@ pub record TakenBack (j : ℕ) (w w' : Words) (o : H.Answer) : Type 0 where
 abbrev pub taken : H.Answer → ℕ
 taken (H.Answer.refused r) = 0
 taken H.Answer.done = 0
-taken (H.Answer.asked none) = 0
-taken (H.Answer.asked (some q)) = length q.point
+taken (H.Answer.asked None) = 0
+taken (H.Answer.asked (Some q)) = length q.point
 taken (H.Answer.reported r) = length r.point
 taken (H.Answer.counted k) = 0
 taken (H.Answer.entered ws) = length ws

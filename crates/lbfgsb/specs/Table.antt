@@ -3,7 +3,7 @@
 -- What words hold is read off them: the test for a held fit (`is_held`), the machine (`machine_in`), the setup (`setup_of`), the log up to its last entry
 -- (`log_in`).
 use Rattle.std.specs.Prelude.{ℕ, ◌+◌, ◌-◌, Bool, true, false, cond, ◌&&◌, List, [], ltb, length, replicate}
-use Rattle.std.proofs.Math.Option.{Option, none, some}
+use Rattle.std.specs.Prelude.{Option, None, Some}
 use Rattle.definition.specs.Number.{zero64}
 use Rattle.definition.specs.Problem.{Check, refuse, when, ◌then◌, validate}
 use Rattle.definition.specs.Machine as M
@@ -43,8 +43,8 @@ abbrev pub replies_left : ℕ → Words → Option (List M.Reply)
 replies_left j w = entries_kept (setup_of w) (w.state.extra.entries - j) (log_in w)
 
 abbrev pub stay_answer : Option (List M.Reply) → Answer
-stay_answer (some rs) = Answer.done
-stay_answer none = Answer.refused (plain_refusal 17)
+stay_answer (Some rs) = Answer.done
+stay_answer None = Answer.refused (plain_refusal 17)
 
 -- where no fit is held there is nothing to strike
 abbrev pub back_answer : Words → ℕ → Answer
@@ -53,11 +53,11 @@ back_answer w j = refused_by (check_back w j) (by_held w (stay_answer (replies_l
 -- ---- reads: 15, 12, 19
 
 abbrev pub question_of : Words → ℕ → Option M.Question → Answer
-question_of w room none = Answer.asked none
-question_of w room (some q) = refused_by (output_short room w.state.shape.n) (Answer.asked (some q))
+question_of w room None = Answer.asked None
+question_of w room (Some q) = refused_by (output_short room w.state.shape.n) (Answer.asked (Some q))
 
 abbrev pub question_answer : Words → ℕ → Answer
-question_answer w room = by_held w (question_of w room (M.question (machine_in w))) (Answer.asked none)
+question_answer w room = by_held w (question_of w room (M.question (machine_in w))) (Answer.asked None)
 
 abbrev pub report_answer : Words → ℕ → Answer
 report_answer w room =
@@ -92,8 +92,8 @@ answer_at (Call.entry k room) w = entry_answer w k room
 answer_at (Call.save room) w = save_answer w room
 
 abbrev pub is_none : {A : Type 0} → Option A → Bool
-is_none none = true
-is_none (some a) = false
+is_none None = true
+is_none (Some a) = false
 
 -- ---- what a refusal leaves
 

@@ -13,9 +13,8 @@ use Rattle.definition.proofs.Bytes.{bytes-length}
 use Rattle.area.specs.Area.{view, first_pair, vector_lower, vector_upper, vector_x0}
 use Rattle.area.proofs.Laws.{length-view, part_lent}
 use Rattle.area.proofs.Sizes.{within}
-use Rattle.problem.specs.Setups.{count_of}
-use Rattle.problem.specs.declared.MaybeCount.{MaybeCount}
-use Rattle.problem.specs.declared.MaybeCount.TheVariants as K
+use Rattle.std.specs.Prelude.{Option, None, Some}
+use Rattle.problem.specs.Setups.{setup_in}
 use Rattle.fit.specs.declared.Fit.{Fit}
 use Rattle.question.specs.Reports.{written}
 use Rattle.record.specs.Records.{Savable, setup_size, saved_words, saved_record, overwritten}
@@ -34,9 +33,9 @@ vector_long t a q k h =
     let f = facts t a h in
     length-view a t.shape.n q (omega (arith, within t.shape.n t.shape.m q (omega arith), f.area))
 
-places_few : (k : MaybeCount) (m : ℕ) → P.or_else (count_of k) 10 ≡ m → m ≤ P.most_pairs → P.or_else (count_of k) 0 ≤ 255
-places_few K.Absent m e h = omega arith
-places_few (K.Given j) m e h = omega arith
+places_few : (k : Option ℕ) (m : ℕ) → P.or_else k 10 ≡ m → m ≤ P.most_pairs → P.or_else k 0 ≤ 255
+places_few None m e h = omega arith
+places_few (Some j) m e h = omega arith
 
 pub held_placed : (t : Fit) (a : List Float) → is_held t a ≡ true → Placed t a
 held_placed t a h =
@@ -66,7 +65,7 @@ pub record_long : (t : Fit) (a : List Float) (l : List ℕ) → is_held t a ≡ 
 record_long t a l h r =
     let n = t.shape.n in
     let log = take t.extra.words l in
-    let ws = saved_words t.options (view a n vector_x0) (view a n vector_lower) (view a n vector_upper) log in
+    let ws = saved_words (setup_in t.options (view a n vector_x0) (view a n vector_lower) (view a n vector_upper)) log in
     let size : length ws ≡ setup_size t.options.bounded (length (view a n vector_x0)) + length log
     = saved_size t.options (view a n vector_x0) (view a n vector_lower) (view a n vector_upper) (held_placed t a h).savable log in
     let start : setup_size t.options.bounded (length (view a n vector_x0)) ≡ setup_size t.options.bounded n
@@ -83,22 +82,20 @@ lent n a q = take (q * n + n - q * n) (drop (q * n) a)
 module _ (t : Fit) (a : List Float) (l : List ℕ) where
   pub record_lent : {size : ℕ} → Placed t a → t.extra.words ≤ length l → 8 * (setup_size t.options.bounded t.shape.n + t.extra.words + 4) ≤ size
       → Savable t.options (lent t.shape.n a vector_x0) (lent t.shape.n a vector_lower) (lent t.shape.n a vector_upper)
-      × (8 * (setup_size t.options.bounded (length (lent t.shape.n a vector_x0)) + length (take (t.extra.words - 0) l) + 4) ≤ size)
+      × (8 * (setup_size t.options.bounded (length (lent t.shape.n a vector_x0)) + length (take t.extra.words l) + 4) ≤ size)
   record_lent h r f =
       let n = t.shape.n in
       let parts : Savable t.options (lent n a vector_x0) (lent n a vector_lower) (lent n a vector_upper)
       = rw (part_lent a vector_x0 n, part_lent a vector_lower n, part_lent a vector_upper n) h.savable in
       let long : length (lent n a vector_x0) ≡ n = ap length (part_lent a vector_x0 n) ∙ length-view a n vector_x0 (omega (arith, h.room)) in
-      let log : length (take (t.extra.words - 0) l) ≡ t.extra.words = length-take-le (t.extra.words - 0) l (omega arith) ∙ omega arith in
+      let log : length (take t.extra.words l) ≡ t.extra.words = length-take-le t.extra.words l r in
       (parts, rw (long, log) f)
 
   pub record_put : (out out' : List ℕ) → let n = t.shape.n in
-      out' ≡ overwritten (bytes (saved_record t.options (lent n a vector_x0) (lent n a vector_lower) (lent n a vector_upper) (take (t.extra.words - 0) l))) out
+      out' ≡ overwritten (bytes (saved_record (setup_in t.options (lent n a vector_x0) (lent n a vector_lower) (lent n a vector_upper)) (take t.extra.words l))) out
       → out' ≡ written (record_in (words t a l)) out
   record_put out out' e =
       let n = t.shape.n in
-      let all : t.extra.words - 0 ≡ t.extra.words = omega arith in
-      let log : take (t.extra.words - 0) l ≡ take t.extra.words l = ap (λ (k : ℕ). take k l) all in
-      let is : bytes (saved_record t.options (lent n a vector_x0) (lent n a vector_lower) (lent n a vector_upper) (take (t.extra.words - 0) l)) ≡ record_in (words t a l)
-      = rw (part_lent a vector_x0 n, part_lent a vector_lower n, part_lent a vector_upper n, log) in
+      let is : bytes (saved_record (setup_in t.options (lent n a vector_x0) (lent n a vector_lower) (lent n a vector_upper)) (take t.extra.words l)) ≡ record_in (words t a l)
+      = rw (part_lent a vector_x0 n, part_lent a vector_lower n, part_lent a vector_upper n) in
       e ∙ ap (λ (bs : List ℕ). written bs out) is

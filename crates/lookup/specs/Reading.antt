@@ -1,9 +1,9 @@
 -- The entries among the words of a log, and the record of what words hold.
-use Rattle.std.specs.Prelude.{ℕ, zero, suc, ◌*◌, ◌≤◌, ◌≡◌, List, [], ◌∷◌, ◌++◌, length, drop, Float, cond, eqb}
+use Rattle.std.specs.Prelude.{ℕ, zero, suc, ◌*◌, ◌≤◌, List, [], ◌∷◌, ◌++◌, length, drop, Float, cond, eqb}
 use Rattle.area.specs.Area.{view, vector_x0, vector_lower, vector_upper}
 use Rattle.record.specs.Records.{Savable}
 use Rattle.fit.specs.declared.Fit.{Fit}
-use Rattle.std.proofs.Math.Option.{Option, none, some}
+use Rattle.std.specs.Prelude.{Option, None, Some}
 use Rattle.definition.specs.Machine as M
 use Rattle.definition.specs.Log.{entry_words, entry_of}
 use Rattle.definition.specs.Record.{setup_words, trailer, bytes}
@@ -11,8 +11,8 @@ use Rattle.held.specs.Words.{Words, setup_of, log_in}
 
 -- the words of the entry that begins a list of words; none where it is unknown or cut
 abbrev pub words_of_entry : Option M.Reply → List ℕ
-words_of_entry none = []
-words_of_entry (some r) = entry_words r
+words_of_entry None = []
+words_of_entry (Some r) = entry_words r
 
 abbrev pub front_entry : ℕ → List ℕ → List ℕ
 front_entry n [] = []
@@ -22,11 +22,6 @@ front_entry n (k ∷ ws) = words_of_entry (entry_of n k ws)
 unfoldable pub entry_in : ℕ → ℕ → List ℕ → List ℕ
 entry_in n zero ws = front_entry n ws
 entry_in n (suc k) ws = cond (eqb (length (front_entry n ws)) 0) [] (entry_in n k (drop (length (front_entry n ws)) ws))
-
--- entry k of the words ws begins at a place: where there is none, no entry does
-pub record Begins (n k : ℕ) (ws : List ℕ) (at : ℕ) : Type 0 where
-  pub within : at ≤ length ws
-  pub is : front_entry n (drop at ws) ≡ entry_in n k ws
 
 -- the start and the bounds stand in the area, and can be saved
 pub record Placed (t : Fit) (a : List Float) : Type 0 where

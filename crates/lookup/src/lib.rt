@@ -1,65 +1,46 @@
 // Reading state, area and log: the entries of the log, and the record.
 #![tactic(auto)]
 
-ghost use Rattle.std.specs.Prelude.{◌≡◌, ◌+◌, ◌-◌, ◌*◌, ◌≤◌, length, take, drop};
+ghost use Rattle.std.specs.Prelude.{◌≡◌, ◌+◌, ◌-◌, ◌*◌, ◌≤◌, length};
 ghost use Rattle.definition.specs.Problem.{most_coordinates};
 ghost use Rattle.question.specs.Reports.{written as written_first};
 ghost use Rattle.record.specs.Records.{setup_size};
-ghost use Rattle.lookup.specs.Reading.{Begins, Placed};
+ghost use Rattle.lookup.specs.Reading.{Placed};
 ghost use Rattle.held.specs.Words.{words};
-ghost use Rattle.lookup.specs.Reading.{front_entry, record_in};
+ghost use Rattle.lookup.specs.Reading.{front_entry, entry_in, record_in};
 
 use fit::Fit;
+use problem::Setup;
 
-// Where entry k begins, from 0 the oldest: the end where there is no such entry.
-pub fn entry_place(log: &[u64], n: usize, words: usize, k: usize) -> usize
-    requires { (n ≤ most_coordinates) × (words ≤ length log.now) }
-    ensures { Begins n k (take words log.now) result }
+// The words of the entry that begins some words: none where it is unknown or cut, or where there are no words.
+fn front_entry(words: &[u64], n: usize) -> &[u64]
+    requires { n ≤ most_coordinates }
+    ensures { result.now ≡ front_entry n words.now }
 {
-    let mut at = 0;
-    let mut i = 0;
-    while i < k {
-        if words <= at {
-            return words;
-        }
-        let length = record::entry_length(log[at], n);
-        if length == 0 {
-            return words;
-        }
-        if words - at < length {
-            return words;
-        }
-        at += length;
-        i += 1;
+    if words.is_empty() {
+        return words;
     }
-    at
+    let length = record::entry_length(words[0], n).unwrap_or(0);
+    if words.len() < length {
+        return &words[..0];
+    }
+    &words[..length]
 }
 
-// How many words the entry at a place takes: 0 at the end, or where it is unknown or cut.
-pub fn length_at(log: &[u64], n: usize, words: usize, at: usize) -> usize
-    requires { (n ≤ most_coordinates) × (words ≤ length log.now) }
-    ensures { result ≡ length (front_entry n (drop at (take words log.now))) }
+// The words of entry k, from 0 the oldest, among the words of a log: none where there is no such entry.
+pub fn entry(words: &[u64], n: usize, k: usize) -> &[u64]
+    requires { n ≤ most_coordinates }
+    ensures { result.now ≡ entry_in n k words.now }
 {
-    if words <= at {
-        return 0;
+    let mut rest = words;
+    for i in 0..k {
+        let front = front_entry(rest, n);
+        if front.is_empty() {
+            return front;
+        }
+        rest = &rest[front.len()..];
     }
-    let length = record::entry_length(log[at], n);
-    if words - at < length {
-        return 0;
-    }
-    length
-}
-
-// Words of the log into the front of an output slice.
-pub fn copy_words(log: &[u64], from: usize, count: usize, out: &mut [u64])
-    requires { (from + count ≤ length log.now) × (count ≤ length out.old) }
-    ensures { out.new ≡ written_first (take count (drop from log.now)) out.old }
-{
-    let mut i = 0;
-    while i < count {
-        out[i] = log[from + i];
-        i += 1;
-    }
+    front_entry(rest, n)
 }
 
 // The record of what state, area and log hold, into the front of an output slice.
@@ -69,17 +50,11 @@ pub fn put_record(fit: Fit, area: &[f64], log: &[u64], out: &mut [u8])
     ensures { out.new ≡ written_first (record_in (words fit area.now log.now)) out.old }
 {
     let n = fit.shape.n;
-    let words = fit.extra.words;
-    let options = fit.options;
-    let x0 = area::X0 * n;
-    let lower = area::LOWER * n;
-    let upper = area::UPPER * n;
-    record::write(
-        options,
-        &area[x0..x0 + n],
-        &area[lower..lower + n],
-        &area[upper..upper + n],
-        &log[0..words],
-        out,
-    );
+    let setup = Setup {
+        options: fit.options,
+        x0: &area[area::X0 * n..area::X0 * n + n],
+        lower: &area[area::LOWER * n..area::LOWER * n + n],
+        upper: &area[area::UPPER * n..area::UPPER * n + n],
+    };
+    record::write(setup, &log[..fit.extra.words], out);
 }

@@ -15,9 +15,7 @@ pub fn on_go_on(fit: Fit, area: &mut [f64]) -> Fit
     requires { Sound fit.shape (length area.old) × (fit.shape.n ≤ most_coordinates) }
     ensures { Steps on_go_on fit area.old result area.new }
 {
-    let limits = fit.limits;
-    let counters = fit.counters;
-    if counters::iterations_spent(limits, counters) {
+    if fit.counters.iterations_spent(fit.limits) {
         return fit::ended(fit, Termination::MaxIterations);
     }
     if trial::gradient_small(fit, area) {

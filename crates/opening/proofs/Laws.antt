@@ -6,7 +6,7 @@ use Prim.Native.Nat.{ℕ, ◌*◌, ◌≤◌}
 use native.Mathlib.Omega.{arith}
 use lib.ListN.{length}
 use lib.Ieee.{Float}
-use Rattle.definition.specs.Number.{zero64, infinity, neg_infinity}
+use Rattle.definition.specs.Number.{zero64}
 use Rattle.definition.specs.Problem.{Setup, projected_start}
 use Rattle.definition.specs.Driver as D
 use Rattle.area.specs.Area.{Vecs, view, upd, copy_of, fill_of, rowwise, first_pair, FreeKept, Saved, vector_x, vector_g, vector_lower, vector_upper, vector_x0, vector_trial, vector_trial_gradient, vector_direction}
@@ -20,11 +20,6 @@ use Rattle.fit.specs.State.{machine}
 use Rattle.opening.specs.Opened.{setup_at, Room, boxed, clipped, first_vectors, first_shape, first_machine, First, Stored, Opened}
 
 -- ---- vectors
-
-pub box_opened : (n : ℕ) (v : Vecs) {x y : Float} {u w : Vecs}
-    → u ≡ fill_of n vector_lower x v → x ≡ neg_infinity → w ≡ fill_of n vector_upper y u → y ≡ infinity → w ≡ boxed false n v
-unfolding fill_of rowwise
-box_opened n v e d f g = rw (f, g, e, d)
 
 pub first_made : (n : ℕ) (v : Vecs) {w₁ w₂ w₃ w₄ w₅ : Vecs}
     → w₁ ≡ upd v vector_x (clipped n v) → w₂ ≡ copy_of vector_trial vector_x w₁ → w₃ ≡ fill_of n vector_g zero64 w₂ → w₄ ≡ fill_of n vector_trial_gradient zero64 w₃

@@ -9,7 +9,7 @@ use Rattle.definition.specs.Machine as M
 use Rattle.definition.specs.Driver as D
 use Rattle.area.specs.Area.{Vecs, view, upd, vectors, FreeKept, vector_x, vector_g, vector_lower, vector_upper, vector_x0, vector_trial, vector_trial_gradient, vector_direction}
 use Rattle.problem.specs.declared.Options.{Options}
-use Rattle.problem.specs.Setups.{setup_in, bounds_in, places_in, limits_in, float_of, scheme_of, box_of}
+use Rattle.problem.specs.Setups.{setup_in, bounds_in, places_in, limits_in, scheme_of, box_of}
 use Rattle.compact.specs.declared.Shape.{Shape}
 use Rattle.compact.specs.State.{Sound}
 use Rattle.search.specs.State.{Settled}
@@ -61,7 +61,7 @@ first_shape options n = record { n = n; m = places_in options; pairs = 0; oldest
 -- the machine at the first question, its vectors as they stand
 abbrev pub first_machine : Options → ℕ → Vecs → M.Machine
 first_machine options n v = record {
-  terms = record { n = n; bounds = box_of (v vector_lower) (v vector_upper); maxcor = places_in options; eps = float_of options.eps; scheme = scheme_of options.scheme };
+  terms = record { n = n; bounds = box_of (v vector_lower) (v vector_upper); maxcor = places_in options; eps = options.eps; scheme = scheme_of options.scheme };
   limits = limits_in options;
   held = M.state (v vector_x) zero64 (v vector_g);
   compact = no_pairs;

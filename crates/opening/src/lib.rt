@@ -1,39 +1,40 @@
 // The opening of a fit: its setup into options and area, and the machine at its first question.
 #![tactic(auto)]
 
-ghost use Rattle.std.specs.Prelude.{◌≡◌, ◌*◌, ◌≤◌, true, length};
+ghost use Rattle.std.specs.Prelude.{◌≡◌, ◌*◌, ◌≤◌, length};
 ghost use Rattle.area.specs.Area.{view, upd, first_pair, vector_x};
-ghost use Rattle.problem.specs.Setups.{setup_in};
+ghost use Rattle.problem.specs.Setups.{setup_of};
 ghost use Rattle.opening.specs.Opened.{setup_at, Room, Fits, boxed, clipped, first_vectors, First, Stored, Opened};
 
 use compact::Shape;
+use counters::Counters;
 use fit::{Extra, Fit, Phase, Place};
-use problem::Options;
+use problem::{Options, Setup};
 
 // Infinite bounds, where the setup has none.
+#[tactic(auto, unfolding(area::specs::Area::fill_of, area::specs::Area::rowwise))]
 fn open_box(area: &mut [f64], n: usize, bounded: bool)
     requires { first_pair * n ≤ length area.old }
     ensures { view area.new n ≡ boxed bounded n (view area.old n) }
 {
-    if bounded {
-        return;
+    if !bounded {
+        area::fill(area, n, area::LOWER, float::neg_infinity());
+        area::fill(area, n, area::UPPER, float::infinity());
     }
-    area::fill(area, n, area::LOWER, float::neg_infinity());
-    area::fill(area, n, area::UPPER, float::infinity());
 }
 
+// Kept: the four vectors stand in one slice, which iterators would first have to split.
 // The start brought into the box.
+#[tactic(auto, using(area::proofs::Laws::row_none, area::proofs::Laws::row_done), unfolding(area::specs::Area::rowwise))]
 fn clip_start(area: &mut [f64], n: usize)
     requires { first_pair * n ≤ length area.old }
     ensures { let before = view area.old n in view area.new n ≡ upd before vector_x (clipped n before) }
 {
-    let mut i = 0;
-    while i < n {
+    for i in 0..n {
         let x0 = area[area::X0 * n + i];
         let low = area[area::LOWER * n + i];
         let high = area[area::UPPER * n + i];
         area[area::X * n + i] = float::clamp(x0, low, high);
-        i += 1;
     }
 }
 
@@ -50,24 +51,22 @@ fn first_vectors(area: &mut [f64], n: usize)
 }
 
 // The state at the first question.
+#[tactic(auto, unfolding(compact::specs::State::pairs_of, definition::specs::Vector::tab))]
 fn first_fit(options: Options, n: usize) -> Fit
     ensures { First options n result }
 {
-    let limits = problem::in_force(options);
-    let counters = counters::first_counters();
-    let search = search::no_search();
     Fit {
         shape: Shape {
-            n: n,
-            m: problem::places(options),
+            n,
+            m: options.places(),
             pairs: 0,
             oldest: 0,
         },
-        options: options,
-        limits: limits,
-        counters: counters,
+        options,
+        limits: options.limits(),
+        counters: Counters::first(),
         phase: Phase::Value(Place::Start),
-        search: search,
+        search: search::no_search(),
         value: 0.0,
         trial_value: 0.0,
         right_value: 0.0,
@@ -91,25 +90,26 @@ pub fn reset(options: Options, area: &mut [f64], n: usize) -> Fit
 }
 
 // A setup's vectors into the area: the bounds only where they count.
-fn store_setup(area: &mut [f64], n: usize, bounded: bool, x0: &[f64], lower: &[f64], upper: &[f64])
-    requires { (first_pair * n ≤ length area.old) × (length x0.now ≡ n) × (bounded ≡ true → length lower.now ≡ n)
-        × (bounded ≡ true → length upper.now ≡ n) }
-    ensures { Stored bounded x0.now lower.now upper.now (view area.old n) (view area.new n) }
+fn store_setup(area: &mut [f64], setup: Setup)
+    requires long { first_pair * length setup.x0.now ≤ length area.old }
+    requires fits { Fits setup.options (length setup.x0.now) setup.lower.now setup.upper.now }
+    ensures { let s = setup.entry in let n = length s.x0.now in
+        Stored s.options.bounded s.x0.now s.lower.now s.upper.now (view area.old n) (view area.new n) }
 {
-    area::store(area, n, area::X0, x0);
-    if bounded {
-        area::store(area, n, area::LOWER, lower);
-        area::store(area, n, area::UPPER, upper);
+    let n = setup.x0.len();
+    area::store(area, n, area::X0, setup.x0);
+    if setup.options.bounded {
+        area::store(area, n, area::LOWER, setup.lower);
+        area::store(area, n, area::UPPER, setup.upper);
     }
 }
 
 // From a setup: no word of the area that is ever read stays from before.
-pub fn begin(options: Options, area: &mut [f64], x0: &[f64], lower: &[f64], upper: &[f64]) -> Fit
-    requires { Room options (length x0.now) (length area.old) × Fits options (length x0.now) lower.now upper.now }
-    ensures { Opened options (length x0.now) (setup_in options x0.now lower.now upper.now)
-        area.old result area.new }
+pub fn begin(setup: Setup, area: &mut [f64]) -> Fit
+    requires room { Room setup.options (length setup.x0.now) (length area.old) }
+    requires fits { Fits setup.options (length setup.x0.now) setup.lower.now setup.upper.now }
+    ensures { let s = setup.entry in Opened s.options (length s.x0.now) (setup_of s) area.old result area.new }
 {
-    let n = x0.len();
-    store_setup(area, n, options.bounded, x0, lower, upper);
-    reset(options, area, n)
+    store_setup(area, setup);
+    reset(setup.options, area, setup.x0.len())
 }

@@ -1,14 +1,16 @@
 // `Problem`, `Common` and `LbfgsbOptions`: the setup of a fit, its checks in their order, and the values that apply.
 #![tactic(auto)]
 
-ghost use Rattle.std.specs.Prelude.{◌≡◌, ◌<◌, ◌||◌, List, length, Float};
+ghost use Rattle.std.specs.Prelude.{◌≡◌, ◌<◌, ◌||◌, Some, List, length, Float};
 ghost use Rattle.std.specs.Float.Ieee.{eq};
 ghost use Rattle.definition.specs.Number.{infinity, neg_infinity};
-ghost use Rattle.definition.specs.Problem.{refuse, ◌then◌, given, check_side, check_pair, check_bounds, positive as positive_of};
-ghost use Rattle.definition.specs.Problem.{finite_positive, finite_nonnegative, at_most, or_else, either};
+ghost use Rattle.definition.specs.Problem.{when, given, check_side, check_pair, check_bounds, positive as positive_of};
+ghost use Rattle.definition.specs.Problem.{finite_positive, finite_nonnegative, at_most};
 ghost use Rattle.definition.specs.Problem.{check_problem, check_common, check_options, check_limits, validate as validate_of};
-ghost use Rattle.problem.specs.Setups.{float_of, count_of, box_of, setup_in, check_of, each_finite, each_number, each_pair};
-ghost use Rattle.problem.specs.Setups.{no_options, limits_of, limits_in, places_in};
+ghost use Rattle.problem.specs.Setups.{count_detail, positive_detail, nonnegative_detail, limited_detail, refusal_of, check_of};
+ghost use Rattle.problem.specs.Setups.{box_of, setup_in, setup_of, each_finite, each_number, each_pair, no_options, limits_of, limits_in, places_in};
+
+use std::fmt;
 
 // What applies where a setup does not say, as in the Rust.
 const DEFAULT_BUDGET: usize = 15_000;
@@ -23,36 +25,34 @@ pub const MOST_PAIRS: usize = 16;
 pub const MOST_BUDGET: usize = 1_000_000;
 
 // `FiniteDifference`
-#[derive(Clone, Copy)]
+#[derive(Clone, Copy, Debug, Default, PartialEq, Eq)]
 pub enum Scheme {
+    #[default]
     Forward,
     Central,
 }
 
-#[derive(Clone, Copy)]
-pub enum MaybeFloat {
-    Absent,
-    Given(f64),
-}
-
-#[derive(Clone, Copy)]
-pub enum MaybeCount {
-    Absent,
-    Given(usize),
-}
-
 // The setup but for its vectors, as it was given.
-#[derive(Clone, Copy)]
+#[derive(Clone, Copy, Debug, Default)]
 pub struct Options {
     pub bounded: bool,
-    pub maxiter: MaybeCount,
-    pub maxfev: MaybeCount,
-    pub tol: MaybeFloat,
-    pub ftol: MaybeFloat,
-    pub gtol: MaybeFloat,
-    pub maxcor: MaybeCount,
-    pub eps: MaybeFloat,
+    pub maxiter: Option<usize>,
+    pub maxfev: Option<usize>,
+    pub tol: Option<f64>,
+    pub ftol: Option<f64>,
+    pub gtol: Option<f64>,
+    pub maxcor: Option<usize>,
+    pub eps: Option<f64>,
     pub scheme: Scheme,
+}
+
+// The setup of a fit: its bounds count only where the options say so.
+#[derive(Clone, Copy)]
+pub struct Setup<'a> {
+    pub options: Options,
+    pub x0: &'a [f64],
+    pub lower: &'a [f64],
+    pub upper: &'a [f64],
 }
 
 // The limits in force.
@@ -64,93 +64,247 @@ pub struct Limits {
     pub maxfev: usize,
 }
 
-// A number of document 01's table, with two details, 0 where unnamed.
-#[derive(Clone, Copy)]
-pub struct Refusal {
-    pub number: usize,
-    pub first: usize,
-    pub second: usize,
+// The counts that must be positive.
+#[derive(Clone, Copy, Debug, PartialEq, Eq)]
+pub enum PositiveCount {
+    Maxiter,
+    Maxfev,
+    Maxcor,
 }
 
-#[derive(Clone, Copy)]
-pub enum Checked {
-    Passed,
-    Refused(Refusal),
+// The numbers that must be finite and positive.
+#[derive(Clone, Copy, Debug, PartialEq, Eq)]
+pub enum PositiveFloat {
+    Tol,
+    Eps,
+}
+
+// The numbers that must be finite and at least 0.
+#[derive(Clone, Copy, Debug, PartialEq, Eq)]
+pub enum NonnegativeFloat {
+    Ftol,
+    Gtol,
+}
+
+// The counts that have a limit.
+#[derive(Clone, Copy, Debug, PartialEq, Eq)]
+pub enum Limited {
+    Coordinates,
+    Maxcor,
+    Maxiter,
+    Maxfev,
+}
+
+// Why a call is refused: `InvalidInput`, then what the Rust lacks.
+#[derive(Clone, Copy, Debug, PartialEq, Eq)]
+pub enum Refusal {
+    EmptyX0,
+    NonfiniteX0 { index: usize },
+    BoundsLength { expected: usize, found: usize },
+    NanBound { index: usize },
+    BoundsOrder { index: usize },
+    InfeasibleBound { index: usize },
+    NotPositive(PositiveCount),
+    NotFinitePositive(PositiveFloat),
+    NotFiniteNonnegative(NonnegativeFloat),
+    OverLimit(Limited),
+    AreaShort { needed: usize },
+    LogShort,
+    NotDue,
+    GradientLength { expected: usize, found: usize },
+    NoReport,
+    TooFewReplies,
+    Malformed,
+    SumsDiffer,
+    OutputShort { needed: usize },
+}
+
+impl PositiveCount {
+    // The option's place among the counts.
+    fn detail(self) -> usize
+        ensures { result ≡ count_detail self }
+    {
+        match self {
+            PositiveCount::Maxiter => 1,
+            PositiveCount::Maxfev => 2,
+            PositiveCount::Maxcor => 3,
+        }
+    }
+}
+
+impl PositiveFloat {
+    fn detail(self) -> usize
+        ensures { result ≡ positive_detail self }
+    {
+        match self {
+            PositiveFloat::Tol => 1,
+            PositiveFloat::Eps => 2,
+        }
+    }
+}
+
+impl NonnegativeFloat {
+    fn detail(self) -> usize
+        ensures { result ≡ nonnegative_detail self }
+    {
+        match self {
+            NonnegativeFloat::Ftol => 1,
+            NonnegativeFloat::Gtol => 2,
+        }
+    }
+}
+
+impl Limited {
+    fn detail(self) -> usize
+        ensures { result ≡ limited_detail self }
+    {
+        match self {
+            Limited::Coordinates => 1,
+            Limited::Maxcor => 2,
+            Limited::Maxiter => 3,
+            Limited::Maxfev => 4,
+        }
+    }
+}
+
+impl Refusal {
+    // The refusal's number.
+    pub fn number(self) -> usize
+        ensures { result ≡ (refusal_of self).number }
+    {
+        match self {
+            Refusal::EmptyX0 => 1,
+            Refusal::NonfiniteX0 { .. } => 2,
+            Refusal::BoundsLength { .. } => 3,
+            Refusal::NanBound { .. } => 4,
+            Refusal::BoundsOrder { .. } => 5,
+            Refusal::InfeasibleBound { .. } => 6,
+            Refusal::NotPositive(_) => 7,
+            Refusal::NotFinitePositive(_) => 8,
+            Refusal::NotFiniteNonnegative(_) => 9,
+            Refusal::OverLimit(_) => 10,
+            Refusal::AreaShort { .. } => 11,
+            Refusal::LogShort => 12,
+            Refusal::NotDue => 13,
+            Refusal::GradientLength { .. } => 14,
+            Refusal::NoReport => 15,
+            Refusal::TooFewReplies => 16,
+            Refusal::Malformed => 17,
+            Refusal::SumsDiffer => 18,
+            Refusal::OutputShort { .. } => 19,
+        }
+    }
+
+    // Its two details, 0 where it has none.
+    pub fn details(self) -> (usize, usize)
+        ensures first { result.0 ≡ (refusal_of self).first }
+        ensures second { result.1 ≡ (refusal_of self).second }
+    {
+        match self {
+            Refusal::NonfiniteX0 { index } | Refusal::NanBound { index } => (index, 0),
+            Refusal::BoundsOrder { index } | Refusal::InfeasibleBound { index } => (index, 0),
+            Refusal::BoundsLength { expected, found } => (expected, found),
+            Refusal::GradientLength { expected, found } => (expected, found),
+            Refusal::NotPositive(option) => (option.detail(), 0),
+            Refusal::NotFinitePositive(option) => (option.detail(), 0),
+            Refusal::NotFiniteNonnegative(option) => (option.detail(), 0),
+            Refusal::OverLimit(of) => (of.detail(), 0),
+            Refusal::AreaShort { needed } | Refusal::OutputShort { needed } => (needed, 0),
+            _ => (0, 0),
+        }
+    }
+}
+
+impl fmt::Display for Refusal {
+    fn fmt<W: fmt::Write>(&self, f: &mut fmt::Formatter<W>) -> fmt::Result {
+        match *self {
+            Refusal::EmptyX0 => f.write_str("the start has no coordinate"),
+            Refusal::NonfiniteX0 { index } => write!(
+                f,
+                "coordinate {index} of the start is not finite"
+            ),
+            Refusal::BoundsLength { expected, found } => write!(
+                f,
+                "a side of the box has {found} bounds, not {expected}"
+            ),
+            Refusal::NanBound { index } => write!(f, "bound {index} is not a number"),
+            Refusal::BoundsOrder { index } => write!(
+                f,
+                "upper bound {index} is below the lower one"
+            ),
+            Refusal::InfeasibleBound { index } => write!(
+                f,
+                "no finite number lies between the bounds {index}"
+            ),
+            Refusal::NotPositive(option) => write!(f, "{option:?} is zero"),
+            Refusal::NotFinitePositive(option) => write!(
+                f,
+                "{option:?} is not finite and positive"
+            ),
+            Refusal::NotFiniteNonnegative(option) => write!(
+                f,
+                "{option:?} is not finite and at least 0"
+            ),
+            Refusal::OverLimit(of) => write!(f, "{of:?} is over its limit"),
+            Refusal::AreaShort { needed } => write!(f, "the area has fewer than {needed} words"),
+            Refusal::LogShort => f.write_str("the log has no room"),
+            Refusal::NotDue => f.write_str("no such reply is due"),
+            Refusal::GradientLength { expected, found } => write!(
+                f,
+                "the gradient has {found} coordinates, not {expected}"
+            ),
+            Refusal::NoReport => f.write_str("there is no report yet"),
+            Refusal::TooFewReplies => f.write_str("there are fewer replies"),
+            Refusal::Malformed => f.write_str("the record is malformed"),
+            Refusal::SumsDiffer => f.write_str("the sums differ"),
+            Refusal::OutputShort { needed } => write!(
+                f,
+                "the output has fewer than {needed} places"
+            ),
+        }
+    }
 }
 
 // No box, and every option absent.
 pub fn no_options() -> Options
     ensures { result ≡ no_options }
 {
-    Options {
-        bounded: false,
-        maxiter: MaybeCount::Absent,
-        maxfev: MaybeCount::Absent,
-        tol: MaybeFloat::Absent,
-        ftol: MaybeFloat::Absent,
-        gtol: MaybeFloat::Absent,
-        maxcor: MaybeCount::Absent,
-        eps: MaybeFloat::Absent,
-        scheme: Scheme::Forward,
-    }
-}
-
-// A refusal by its number and details.
-pub fn refused(number: usize, first: usize, second: usize) -> Checked
-    ensures { check_of result ≡ refuse number first second }
-{
-    Checked::Refused(Refusal {
-        number: number,
-        first: first,
-        second: second,
-    })
-}
-
-// The first of two checks that refuses.
-pub fn first_of(first: Checked, second: Checked) -> Checked
-    ensures { check_of result ≡ (check_of first then check_of second) }
-{
-    match first {
-        Checked::Passed => second,
-        Checked::Refused(_) => first,
-    }
+    Options::default()
 }
 
 // 2 at the first coordinate of the start that is not finite.
-fn check_start(x0: &[f64]) -> Checked
+#[tactic(auto, unfolding(definition::specs::Vector::fold_to))]
+fn check_start(x0: &[f64]) -> Result<(), Refusal>
     ensures { check_of result ≡ each_finite x0.now }
 {
-    let mut i = 0;
-    while i < x0.len() {
-        if !float::is_finite(x0[i]) {
-            return refused(2, i, 0);
+    for (index, x) in x0.iter().enumerate() {
+        if !float::is_finite(*x) {
+            return Err(Refusal::NonfiniteX0 { index });
         }
-        i += 1;
     }
-    Checked::Passed
+    Ok(())
 }
 
 // 4 at the first bound of a side that is a NaN.
-fn check_numbers(side: &[f64]) -> Checked
+#[tactic(auto, unfolding(definition::specs::Vector::fold_to))]
+fn check_numbers(side: &[f64]) -> Result<(), Refusal>
     ensures { check_of result ≡ each_number side.now }
 {
-    let mut i = 0;
-    while i < side.len() {
-        if float::is_nan(side[i]) {
-            return refused(4, i, 0);
+    for (index, x) in side.iter().enumerate() {
+        if float::is_nan(*x) {
+            return Err(Refusal::NanBound { index });
         }
-        i += 1;
     }
-    Checked::Passed
+    Ok(())
 }
 
 // A side of the box: 3 for its length, then 4.
-fn check_side(n: usize, side: &[f64]) -> Checked
-    ensures { check_of result ≡ check_side n side.now }
+fn check_side(expected: usize, side: &[f64]) -> Result<(), Refusal>
+    ensures { check_of result ≡ check_side expected side.now }
 {
     let found = side.len();
-    if found != n {
-        return refused(3, n, found);
+    if found != expected {
+        return Err(Refusal::BoundsLength { expected, found });
     }
     check_numbers(side)
 }
@@ -159,229 +313,162 @@ fn check_side(n: usize, side: &[f64]) -> Checked
 fn infeasible(low: f64, high: f64) -> bool
     ensures { result ≡ (eq low infinity || eq high neg_infinity) }
 {
-    if low == float::infinity() {
-        return true;
-    }
-    high == float::neg_infinity()
+    low == float::infinity() || high == float::neg_infinity()
 }
 
 // A coordinate's pair of bounds: 5 for their order, then 6 where no finite number lies between them.
-fn check_pair(lower: &[f64], upper: &[f64], i: usize) -> Checked
-    requires { (i < length lower.now) × (i < length upper.now) }
-    ensures { check_of result ≡ check_pair (box_of lower.now upper.now) i }
+fn check_pair(lower: &[f64], upper: &[f64], index: usize) -> Result<(), Refusal>
+    requires { (index < length lower.now) × (index < length upper.now) }
+    ensures { check_of result ≡ check_pair (box_of lower.now upper.now) index }
 {
-    let low = lower[i];
-    let high = upper[i];
+    let low = lower[index];
+    let high = upper[index];
     if high < low {
-        return refused(5, i, 0);
+        return Err(Refusal::BoundsOrder { index });
     }
     if infeasible(low, high) {
-        return refused(6, i, 0);
+        return Err(Refusal::InfeasibleBound { index });
     }
-    Checked::Passed
+    Ok(())
 }
 
 // 5 and 6 for each coordinate in turn.
-fn check_pairs(lower: &[f64], upper: &[f64]) -> Checked
+#[tactic(auto, using(crate::proofs::Laws::each_refused), unfolding(definition::specs::Vector::fold_to))]
+fn check_pairs(lower: &[f64], upper: &[f64]) -> Result<(), Refusal>
     requires { length lower.now ≡ length upper.now }
     ensures { check_of result ≡ each_pair (box_of lower.now upper.now) }
 {
-    let mut i = 0;
-    while i < lower.len() {
-        let pair = check_pair(lower, upper, i);
-        let Checked::Passed = pair else {
-            return pair;
-        };
-        i += 1;
+    for i in 0..lower.len() {
+        check_pair(lower, upper, i)?;
     }
-    Checked::Passed
+    Ok(())
 }
 
 // The box: its lower side, its upper side, then the pairs.
-fn check_bounds(n: usize, lower: &[f64], upper: &[f64]) -> Checked
+fn check_bounds(n: usize, lower: &[f64], upper: &[f64]) -> Result<(), Refusal>
     ensures { check_of result ≡ check_bounds n (box_of lower.now upper.now) }
 {
-    let below = check_side(n, lower);
-    let Checked::Passed = below else {
-        return below;
-    };
-    let above = check_side(n, upper);
-    let Checked::Passed = above else {
-        return above;
-    };
+    check_side(n, lower)?;
+    check_side(n, upper)?;
     check_pairs(lower, upper)
 }
 
-// `Problem::validate`: the start, 1 and 2, then the box where there is one.
-fn check_problem(options: Options, x0: &[f64], lower: &[f64], upper: &[f64]) -> Checked
-    ensures { check_of result ≡ check_problem (setup_in options x0.now lower.now upper.now) }
+// A refusal where a test says so.
+fn refuse_if(test: bool, refusal: Refusal) -> Result<(), Refusal>
+    ensures { check_of result ≡ when test (Some (refusal_of refusal)) }
 {
-    let n = x0.len();
-    if n == 0 {
-        return refused(1, 0, 0);
-    }
-    let start = check_start(x0);
-    if options.bounded {
-        return first_of(start, check_bounds(n, lower, upper));
-    }
-    start
+    if test { Err(refusal) } else { Ok(()) }
 }
 
 // 7 for a count of zero.
-fn positive(option: usize, maybe: MaybeCount) -> Checked
-    ensures { check_of result ≡ given (positive_of option) (count_of maybe) }
+fn positive(option: PositiveCount, count: Option<usize>) -> Result<(), Refusal>
+    ensures { check_of result ≡ given (positive_of (count_detail option)) count }
 {
-    let MaybeCount::Given(count) = maybe else {
-        return Checked::Passed;
-    };
-    if count == 0 {
-        return refused(7, option, 0);
-    }
-    Checked::Passed
+    refuse_if(count == Some(0), Refusal::NotPositive(option))
 }
 
 // 8 for a number that is not finite and positive.
-fn finite_positive(option: usize, maybe: MaybeFloat) -> Checked
-    ensures { check_of result ≡ given (finite_positive option) (float_of maybe) }
+fn finite_positive(option: PositiveFloat, value: Option<f64>) -> Result<(), Refusal>
+    ensures { check_of result ≡ given (finite_positive (positive_detail option)) value }
 {
-    let MaybeFloat::Given(x) = maybe else {
-        return Checked::Passed;
-    };
-    if !float::is_finite(x) {
-        return refused(8, option, 0);
-    }
-    if x <= 0.0 {
-        return refused(8, option, 0);
-    }
-    Checked::Passed
+    let refused = value.is_some_and(|x| !float::is_finite(x) || x <= 0.0);
+    refuse_if(refused, Refusal::NotFinitePositive(option))
 }
 
 // 9 for a number that is not finite and at least 0.
-fn finite_nonnegative(option: usize, maybe: MaybeFloat) -> Checked
-    ensures { check_of result ≡ given (finite_nonnegative option) (float_of maybe) }
+fn finite_nonnegative(option: NonnegativeFloat, value: Option<f64>) -> Result<(), Refusal>
+    ensures { check_of result ≡ given (finite_nonnegative (nonnegative_detail option)) value }
 {
-    let MaybeFloat::Given(x) = maybe else {
-        return Checked::Passed;
-    };
-    if !float::is_finite(x) {
-        return refused(9, option, 0);
-    }
-    if x < 0.0 {
-        return refused(9, option, 0);
-    }
-    Checked::Passed
+    let refused = value.is_some_and(|x| !float::is_finite(x) || x < 0.0);
+    refuse_if(refused, Refusal::NotFiniteNonnegative(option))
 }
 
 // 10 for a count over its limit.
-fn at_most(limit: usize, detail: usize, maybe: MaybeCount) -> Checked
-    ensures { check_of result ≡ given (at_most limit detail) (count_of maybe) }
+fn at_most(limit: usize, of: Limited, count: Option<usize>) -> Result<(), Refusal>
+    ensures { check_of result ≡ given (at_most limit (limited_detail of)) count }
 {
-    let MaybeCount::Given(count) = maybe else {
-        return Checked::Passed;
-    };
-    if limit < count {
-        return refused(10, detail, 0);
+    refuse_if(count.is_some_and(|k| limit < k), Refusal::OverLimit(of))
+}
+
+impl Options {
+    // `Common::validate`: maxiter, maxfev, tol.
+    #[tactic(auto, unfolding(definition::specs::Problem::check_common))]
+    fn check_common(self) -> Result<(), Refusal>
+        ensures { (x0 lower upper : List Float) → check_of result ≡ check_common (setup_in self x0 lower upper) }
+    {
+        positive(PositiveCount::Maxiter, self.maxiter)?;
+        positive(PositiveCount::Maxfev, self.maxfev)?;
+        finite_positive(PositiveFloat::Tol, self.tol)
     }
-    Checked::Passed
-}
 
-// `Common::validate`: maxiter, maxfev, tol.
-fn check_common(options: Options) -> Checked
-    ensures { (x0 lower upper : List Float) → check_of result ≡ check_common (setup_in options x0 lower upper) }
-{
-    let maxiter = options.maxiter;
-    let maxfev = options.maxfev;
-    let tol = options.tol;
-    first_of(
-        positive(1, maxiter),
-        first_of(positive(2, maxfev), finite_positive(1, tol)),
-    )
-}
+    // `LbfgsbOptions::validate`: ftol, gtol, maxcor, eps.
+    #[tactic(auto, unfolding(definition::specs::Problem::check_options))]
+    fn check_options(self) -> Result<(), Refusal>
+        ensures { (x0 lower upper : List Float) → check_of result ≡ check_options (setup_in self x0 lower upper) }
+    {
+        finite_nonnegative(NonnegativeFloat::Ftol, self.ftol)?;
+        finite_nonnegative(NonnegativeFloat::Gtol, self.gtol)?;
+        positive(PositiveCount::Maxcor, self.maxcor)?;
+        finite_positive(PositiveFloat::Eps, self.eps)
+    }
 
-// `LbfgsbOptions::validate`: ftol, gtol, maxcor, eps.
-fn check_options(options: Options) -> Checked
-    ensures { (x0 lower upper : List Float) → check_of result ≡ check_options (setup_in options x0 lower upper) }
-{
-    let ftol = options.ftol;
-    let gtol = options.gtol;
-    let maxcor = options.maxcor;
-    let eps = options.eps;
-    let others = first_of(positive(3, maxcor), finite_positive(2, eps));
-    first_of(
-        finite_nonnegative(1, ftol),
-        first_of(finite_nonnegative(2, gtol), others),
-    )
-}
+    // The limits that a setup puts in force: ftol and gtol fall back to tol, then to the defaults; budgets to 15,000.
+    #[tactic(auto, using(float::proofs::Constants::default_ftol_is, float::proofs::Constants::default_gtol_is))]
+    pub fn limits(self) -> Limits
+        ensures { limits_of result ≡ limits_in self }
+    {
+        Limits {
+            ftol: self.ftol.or(self.tol).unwrap_or(float::DEFAULT_FTOL),
+            gtol: self.gtol.or(self.tol).unwrap_or(float::DEFAULT_GTOL),
+            maxiter: self.maxiter.unwrap_or(DEFAULT_BUDGET),
+            maxfev: self.maxfev.unwrap_or(DEFAULT_BUDGET),
+        }
+    }
 
-// The added limits: n, maxcor, maxiter, maxfev.
-fn check_limits(options: Options, x0: &[f64]) -> Checked
-    ensures { (lower upper : List Float) → check_of result ≡ check_limits (setup_in options x0.now lower upper) }
-{
-    let n = MaybeCount::Given(x0.len());
-    let maxcor = options.maxcor;
-    let maxiter = options.maxiter;
-    let maxfev = options.maxfev;
-    let budgets = first_of(
-        at_most(MOST_BUDGET, 3, maxiter),
-        at_most(MOST_BUDGET, 4, maxfev),
-    );
-    let pairs = at_most(MOST_PAIRS, 2, maxcor);
-    first_of(at_most(MOST_COORDINATES, 1, n), first_of(pairs, budgets))
-}
-
-// The setup's rows of the table, in the order printed: problem, common, options, added limits.
-pub fn validate(options: Options, x0: &[f64], lower: &[f64], upper: &[f64]) -> Checked
-    ensures { check_of result ≡ validate_of (setup_in options x0.now lower.now upper.now) }
-{
-    let problem = check_problem(options, x0, lower, upper);
-    let rest = first_of(check_options(options), check_limits(options, x0));
-    first_of(problem, first_of(check_common(options), rest))
-}
-
-// A count, or its default.
-fn count_or(maybe: MaybeCount, default: usize) -> usize
-    ensures { result ≡ or_else (count_of maybe) default }
-{
-    match maybe {
-        MaybeCount::Given(count) => count,
-        MaybeCount::Absent => default,
+    // The pairs that a setup allows, 10 where it does not say.
+    pub fn places(self) -> usize
+        ensures { result ≡ places_in self }
+    {
+        self.maxcor.unwrap_or(DEFAULT_MAXCOR)
     }
 }
 
-// A tolerance, or the one it falls back to, or its default.
-fn float_or(tolerance: MaybeFloat, fallback: MaybeFloat, default: f64) -> f64
-    ensures { result ≡ or_else (either (float_of tolerance) (float_of fallback)) default }
-{
-    match tolerance {
-        MaybeFloat::Given(x) => x,
-        MaybeFloat::Absent => match fallback {
-            MaybeFloat::Given(x) => x,
-            MaybeFloat::Absent => default,
-        },
+impl Setup<'_> {
+    // `Problem::validate`: the start, 1 and 2, then the box where there is one.
+    #[tactic(auto, unfolding(definition::specs::Problem::check_problem))]
+    fn check_problem(self) -> Result<(), Refusal>
+        ensures { check_of result ≡ check_problem (setup_of self.entry) }
+    {
+        let n = self.x0.len();
+        if n == 0 {
+            return Err(Refusal::EmptyX0);
+        }
+        check_start(self.x0)?;
+        if self.options.bounded {
+            return check_bounds(n, self.lower, self.upper);
+        }
+        Ok(())
     }
-}
 
-// The limits that a setup puts in force: ftol and gtol fall back to tol, then to the defaults; budgets to 15,000.
-pub fn in_force(options: Options) -> Limits
-    ensures { limits_of result ≡ limits_in options }
-{
-    let ftol = options.ftol;
-    let gtol = options.gtol;
-    let tol = options.tol;
-    let maxiter = options.maxiter;
-    let maxfev = options.maxfev;
-    Limits {
-        ftol: float_or(ftol, tol, float::DEFAULT_FTOL),
-        gtol: float_or(gtol, tol, float::DEFAULT_GTOL),
-        maxiter: count_or(maxiter, DEFAULT_BUDGET),
-        maxfev: count_or(maxfev, DEFAULT_BUDGET),
+    // The added limits: n, maxcor, maxiter, maxfev.
+    #[tactic(auto, unfolding(definition::specs::Problem::check_limits))]
+    fn check_limits(self) -> Result<(), Refusal>
+        ensures { check_of result ≡ check_limits (setup_of self.entry) }
+    {
+        at_most(MOST_COORDINATES, Limited::Coordinates, Some(self.x0.len()))?;
+        at_most(MOST_PAIRS, Limited::Maxcor, self.options.maxcor)?;
+        at_most(MOST_BUDGET, Limited::Maxiter, self.options.maxiter)?;
+        at_most(MOST_BUDGET, Limited::Maxfev, self.options.maxfev)
     }
-}
 
-// The pairs that a setup allows, 10 where it does not say.
-pub fn places(options: Options) -> usize
-    ensures { result ≡ places_in options }
-{
-    let maxcor = options.maxcor;
-    count_or(maxcor, DEFAULT_MAXCOR)
+    // The setup's refusals, in their order: problem, common, options, added limits.
+    #[tactic(auto, unfolding(definition::specs::Problem::validate))]
+    pub fn validate(self) -> Result<(), Refusal>
+        ensures { check_of result ≡ validate_of (setup_of self.entry) }
+    {
+        self.check_problem()?;
+        self.options.check_common()?;
+        self.options.check_options()?;
+        self.check_limits()
+    }
 }

@@ -8,21 +8,31 @@ ghost use Rattle.area.specs.Area.{Vecs, view, vector_trial, vector_x};
 ghost use Rattle.compact.specs.State.{Sound};
 ghost use Rattle.gradient.specs.Probing.{probes_in};
 ghost use Rattle.fit.specs.State.{machine, machine_of, phase_of, side_of};
-ghost use Rattle.question.specs.Reports.{point_asked, written, probe_word, report_of};
+ghost use Rattle.question.specs.Reports.{point_asked, written, probe_word, status_in, report_of};
 
 use counters::Termination;
 use fit::{Fit, Phase, Place, Side};
 use gradient::Probes;
 
 // `Outcome`: the report but for its point.
-#[derive(Clone, Copy)]
+#[derive(Clone, Copy, Debug)]
 pub struct Outcome {
-    pub status: usize,
+    // how the fit has ended, if it has
+    pub termination: Option<Termination>,
     pub value: f64,
     pub nit: usize,
     pub nfev: usize,
     pub njev: usize,
     pub drawn: usize,
+}
+
+impl Outcome {
+    // The number of how the fit has ended: 0 while it is running.
+    pub fn status(self) -> usize
+        ensures { result ≡ status_in self.termination }
+    {
+        self.termination.map_or(0, |why| why.number())
+    }
 }
 
 // ---- the question
@@ -32,12 +42,8 @@ fn copy_out(area: &[f64], n: usize, vector: usize, out: &mut [f64])
     requires { (vector * n + n ≤ length area.now) × (n ≤ length out.old) }
     ensures { out.new ≡ written (view area.now n vector) out.old }
 {
-    let from = vector * n;
-    let mut i = 0;
-    while i < n {
-        out[i] = area[from + i];
-        i += 1;
-    }
+    let start = vector * n;
+    out[..n].copy_from_slice(&area[start..start + n]);
 }
 
 // Coordinate i of a probe's point: x where nothing is probed.
@@ -46,12 +52,12 @@ fn probe_word(probes: Probes, side: Side, x: f64) -> f64
 {
     match probes {
         Probes::Neither => x,
-        Probes::Both(r, l) => match side {
-            Side::Right => r,
-            Side::Left => l,
+        Probes::Both(right, left) => match side {
+            Side::Right => right,
+            Side::Left => left,
         },
-        Probes::RightOnly(r) => r,
-        Probes::LeftOnly(l) => l,
+        Probes::RightOnly(right) => right,
+        Probes::LeftOnly(left) => left,
     }
 }
 
@@ -63,12 +69,8 @@ fn put_probe(fit: Fit, area: &[f64], i: usize, side: Side, out: &mut [f64])
 {
     let n = fit.shape.n;
     copy_out(area, n, area::TRIAL, out);
-    let options = fit.options;
-    let eps = options.eps;
-    let scheme = options.scheme;
-    let probes = gradient::probes_at(n, eps, scheme, area, i);
-    let x = out[i];
-    out[i] = probe_word(probes, side, x);
+    let probes = gradient::probes_at(n, &fit.options, area, i);
+    out[i] = probe_word(probes, side, out[i]);
 }
 
 // The point of the open question; nothing where there is none.
@@ -77,10 +79,8 @@ pub fn put_question(fit: Fit, area: &[f64], out: &mut [f64])
     ensures { out.new ≡ written (point_asked (question_of (machine_of fit area.now))) out.old }
 {
     let n = fit.shape.n;
-    let phase = fit.phase;
-    match phase {
-        Phase::Value(_) => copy_out(area, n, area::TRIAL, out),
-        Phase::Gradient(_) => copy_out(area, n, area::TRIAL, out),
+    match fit.phase {
+        Phase::Value(_) | Phase::Gradient(_) => copy_out(area, n, area::TRIAL, out),
         Phase::Probe(_, i, side) => put_probe(fit, area, i, side, out),
         Phase::Notice => copy_out(area, n, area::X, out),
         Phase::Ended(_) => {}
@@ -89,16 +89,13 @@ pub fn put_question(fit: Fit, area: &[f64], out: &mut [f64])
 
 // ---- the report
 
-// 0 while the fit is running.
-pub fn status_of(phase: Phase) -> usize
-    ensures { result ≡ status_of (phase_of phase) }
+// How the fit has ended, if it has.
+fn termination(phase: Phase) -> Option<Termination>
+    ensures { status_in result ≡ status_of (phase_of phase) }
 {
     match phase {
-        Phase::Value(_) => 0,
-        Phase::Gradient(_) => 0,
-        Phase::Probe(_, _, _) => 0,
-        Phase::Notice => 0,
-        Phase::Ended(why) => counters::status_number(why),
+        Phase::Ended(why) => Some(why),
+        _ => None,
     }
 }
 
@@ -106,31 +103,23 @@ pub fn status_of(phase: Phase) -> usize
 pub fn unreported(phase: Phase) -> bool
     ensures { result ≡ unreported_in (phase_of phase) }
 {
-    match phase {
-        Phase::Value(place) => match place {
-            Place::Start => true,
-            Place::Trial => false,
-        },
-        Phase::Gradient(_) => false,
-        Phase::Probe(_, _, _) => false,
-        Phase::Notice => false,
-        Phase::Ended(why) => counters::status_number(why) == 8,
-    }
+    matches!(
+        phase,
+        Phase::Value(Place::Start) | Phase::Ended(Termination::ObjectiveFailed)
+    )
 }
 
 // The numbers of the report.
 pub fn outcome_of(fit: Fit) -> Outcome
     ensures { (v : Vecs) → report_of result (v vector_x) ≡ report_in (machine fit v) }
 {
-    let phase = fit.phase;
-    let counters = fit.counters;
     Outcome {
-        status: status_of(phase),
+        termination: termination(fit.phase),
         value: fit.value,
-        nit: counters.nit,
-        nfev: counters.nfev,
-        njev: counters.njev,
-        drawn: counters.nfev,
+        nit: fit.counters.nit,
+        nfev: fit.counters.nfev,
+        njev: fit.counters.njev,
+        drawn: fit.counters.nfev,
     }
 }
 

@@ -1,29 +1,47 @@
 -- Laws of a record that opens: where its entries stand, how it is read on, and the fit of its setup. Assumes nothing.
-use Prim.Native.Nat.{ℕ, ◌+◌, ◌-◌, ◌*◌, ◌≤◌}
+use Prim.Native.Nat.{ℕ, zero, suc, ◌+◌, ◌-◌, ◌*◌, ◌/◌, ◌≤◌}
 use native.Mathlib.Omega.{arith}
 use mathlib.Core.Path.{◌≡◌, refl, sym, ap, ◌∙◌, subst}
 use mathlib.Core.Bool.{true}
-use mathlib.Core.List.{List}
-use lib.ListN.{length, take, drop}
-use lib.Seq.{drop-drop}
+use mathlib.Core.List.{List, ◌∷◌}
+use lib.ListN.{length, take, drop, length-drop}
+use lib.Seq.{drop-drop, length-take-le}
+use Rattle.std.proofs.lemmas.List.{take-take, drop-take}
 use lib.Ieee.{Float}
-use Rattle.definition.specs.Problem.{Setup, area_needed, area_words, maxcor_of}
+use Rattle.definition.specs.Problem.{Setup, validate, area_needed}
 use Rattle.definition.specs.Log.{entries_of}
-use Rattle.definition.specs.Record.{read_record, reading_of, words_of, setup_in}
+use Rattle.definition.specs.Record.{read_record, reading_of, number_of, words_of, setup_in}
 use Rattle.definition.proofs.Accepted.{accepted_in_limits}
 use Rattle.definition.proofs.Bytes.{words_of-length}
-use Rattle.area.specs.Area.{vectors}
-use Rattle.problem.specs.Setups.{places_in}
+use Rattle.area.proofs.Sizes.{behind}
+use Rattle.problem.specs.Setups.{setup_of, places_in}
+use Rattle.problem.specs.declared.Setup.{Setup as Lent}
 use Rattle.problem.specs.declared.Options.{Options}
 use Rattle.fit.specs.declared.Fit.{Fit}
-use Rattle.opening.specs.Opened.{Room, Opened}
+use Rattle.opening.specs.Opened.{Room, Fits, Opened}
 use Rattle.held.specs.Test.{is_ready}
 use Rattle.record.specs.declared.Frame.{Frame}
 use Rattle.record.specs.Records.{words_in, setup_from, floats_of, Opens}
-use Rattle.record.proofs.Reading.{words-drop, needed}
+use Rattle.record.proofs.Reading.{words-drop}
 use Rattle.record.proofs.Floats.{opened_setup}
 use Rattle.rebuild.specs.Built.{entries_in, Built}
 use Rattle.held.proofs.Laws.{reached_ready, opened_reached}
+
+-- words of a part that has just as many
+words_front : (n : ℕ) (bs : List ℕ) → words_of n (take (8 * n) bs) ≡ words_of n bs
+unfolding words_of
+words_front zero bs = refl
+words_front (suc n) bs =
+    let e : 8 * suc n ≡ 8 + 8 * n = omega arith in
+    let front : take 8 (take (8 + 8 * n) bs) ≡ take 8 bs = take-take 8 (8 + 8 * n) bs (omega arith) in
+    let rest : drop 8 (take (8 + 8 * n) bs) ≡ take (8 * n) (drop 8 bs) = drop-take 8 (8 * n) bs in
+    rw (e, front, rest) (ap (λ (ws : List ℕ). number_of (take 8 bs) ∷ ws) (words_front n (drop 8 bs)))
+
+lent : (bs : List ℕ) (n k : ℕ) → k ≡ 8 * n → 8 * n ≤ length bs → words_of (length (take k bs) / 8) (take k bs) ≡ words_of n bs
+lent bs n k e h =
+    let long : length (take (8 * n) bs) ≡ 8 * n = length-take-le (8 * n) bs h in
+    let count : length (take (8 * n) bs) / 8 ≡ n = omega arith in
+    rw (e, count) (words_front n bs)
 
 module _ (bs : List ℕ) (size : ℕ) (o : Options) (f : Frame) (h : Opens bs size o f) where
   abbrev pub setup : Setup
@@ -38,35 +56,38 @@ module _ (bs : List ℕ) (size : ℕ) (o : Options) (f : Frame) (h : Opens bs si
   pub entries_within : f.at + 8 * f.setup + 8 * (f.words - f.setup) ≤ length bs
   entries_within = omega (arith, h.placed.within, h.whole)
 
+  -- the words of the part of the bytes that is lent for them
+  pub entries_lent : (k : ℕ) → k ≡ 8 * (f.words - f.setup)
+      → words_of (length (take k (drop (f.at + 8 * f.setup) bs)) / 8) (take k (drop (f.at + 8 * f.setup) bs)) ≡ entries
+  entries_lent k e =
+      lent (drop (f.at + 8 * f.setup) bs) (f.words - f.setup) k e (omega (arith, entries_within, length-drop (f.at + 8 * f.setup) bs))
+
   entries_behind : drop f.setup (words_in bs f) ≡ entries
   entries_behind = words-drop f.setup f.words (drop f.at bs) h.whole ∙ ap (words_of (f.words - f.setup)) (drop-drop (8 * f.setup) f.at bs)
 
   pub reading : (room : ℕ) → read_record (record { area = size; log = room }) bs ≡ reading_of setup (entries_of setup room entries)
   reading room = h.reads room ∙ ap (λ (ws : List ℕ). reading_of setup (entries_of setup room ws)) entries_behind
 
-  -- what `begin` asks
-  pub opens_room : Room o f.n size
-  opens_room =
-      let l = accepted_in_limits setup h.accepted in
-      let places : maxcor_of setup ≡ places_in o = ap maxcor_of h.same in
-      let need : area_words f.n (places_in o) ≡ area_needed setup
-      = needed bs f h.placed h.whole o h.options (places_in o) (area_words f.n (places_in o)) refl refl in
-      record {
-        all = enough f.n (places_in o) size (omega (arith, need, h.room));
-        few = omega (arith, l.pairs, places);
-        some = omega (arith, l.pairs, places);
-      }
-    where
-      enough : (n m size : ℕ) → area_words n m ≤ size → vectors m * n ≤ size
-      enough n m size k = omega arith
+  -- the setup of its options and vectors
+  pub record_setup : (p : Lent) (v : List Float) → setup_of p ≡ setup_from o v f.n → v ≡ floats_of (take (f.setup - 7) (drop 7 (words_in bs f)))
+      → setup_of p ≡ setup
+  record_setup p v is e = is ∙ ap (λ (x : List Float). setup_from o x f.n) e ∙ opened_setup bs size o f h
 
-  -- the fit that `begin` makes of it
-  pub record_opened : {v : List Float} {a : List Float} {r : Fit} {b : List Float} → v ≡ floats_of (take (f.setup - 7) (drop 7 (words_in bs f)))
-      → Opened o f.n (setup_from o v f.n) a r b → Opened o f.n (setup_in (words_in bs f)) a r b
-  record_opened {v} {a} {r} {b} e k =
-      subst (λ (s : Setup). Opened o f.n s a r b) (ap (λ (x : List Float). setup_from o x f.n) e ∙ opened_setup bs size o f h) k
+  module _ (p : Lent) (is : setup_of p ≡ setup) where
+    -- what `begin` asks
+    pub opens_room : Room p.options (length p.x0.now) size × Fits p.options (length p.x0.now) p.lower.now p.upper.now
+    opens_room =
+        let l = accepted_in_limits (setup_of p) (ap validate is ∙ h.accepted) in
+        let need : area_needed (setup_of p) ≤ size = subst (λ (s : Setup). area_needed s ≤ size) (sym is) h.room in (
+          record { all = omega (arith, need, behind (length p.x0.now) (places_in p.options)); few = l.pairs.1; some = l.pairs.0 },
+          record { lower = λ b. rw b at l.lower; upper = λ b. rw b at l.upper },
+        )
 
-  pub record_ready : {a : List Float} {r : Fit} {b : List Float} → length a ≡ size → Opened o f.n (setup_in (words_in bs f)) a r b
+    -- the fit that `begin` makes of it
+    pub record_opened : {q : Options} {n : ℕ} {a : List Float} {r : Fit} {b : List Float} → Opened q n (setup_of p) a r b → Opened q n setup a r b
+    record_opened {q} {n} {a} {r} {b} k = subst (λ (s : Setup). Opened q n s a r b) is k
+
+  pub record_ready : {q : Options} {n : ℕ} {a : List Float} {r : Fit} {b : List Float} → length a ≡ size → Opened q n setup a r b
       → is_ready r (length b) ≡ true
   record_ready z k = reached_ready (opened_reached h.accepted (subst (λ (i : ℕ). area_needed setup ≤ i) (sym (k.long ∙ z)) h.room) k)
 

@@ -4,7 +4,7 @@ use Prim.Native.Nat.{ℕ, zero, suc, ◌+◌, ◌-◌, ◌≤◌, ◌<◌}
 use native.Mathlib.Omega.{arith}
 use mathlib.Core.Path.{◌≡◌, refl, sym, ap, ap₂, ◌∙◌}
 use mathlib.Core.List.{List, [], ◌∷◌, ◌++◌, append_assoc, append-nil}
-use mathlib.Core.Option.{none, some}
+use Rattle.std.specs.Prelude.{None, Some}
 use lib.ListN.{length, drop, length-drop}
 use lib.Seq.{drop-length, drop-append-le}
 use lib.Ieee.{Float}
@@ -35,7 +35,7 @@ log_front (suc j) (r ∷ rs) =
     ∙ ap (λ (ws : List ℕ). ws ++ entry_words r) (log_front j rs)
 
 -- of a log of due replies, those that are left when j are struck
-pub log_kept : (s : Setup) (rs : List Reply) → Due s rs → (j : ℕ) → j ≤ length rs → entries_kept s (length rs - j) (log_words rs) ≡ some (drop j rs)
+pub log_kept : (s : Setup) (rs : List Reply) → Due s rs → (j : ℕ) → j ≤ length rs → entries_kept s (length rs - j) (log_words rs) ≡ Some (drop j rs)
 log_kept s rs due j h =
     let count : length rs - j ≡ length (drop j rs) = omega (arith, length-drop j rs) in
     let room = length (log_words rs) in
@@ -53,12 +53,12 @@ stopped_kept s ws count room k d fits h stops is =
     kept_in s ws count room fits ∙ ap stayed (after_stopped k count room (first_entries s ws) d h stops is)
 
 -- one of them is refused
-pub refused_kept : (s : Setup) (ws : List ℕ) (count room c : ℕ) → length ws ≤ room → RefusedAt s ws count room c → entries_kept s count ws ≡ none
+pub refused_kept : (s : Setup) (ws : List ℕ) (count room c : ℕ) → length ws ≤ room → RefusedAt s ws count room c → entries_kept s count ws ≡ None
 refused_kept s ws count room c fits r = stopped_kept s ws count room r.number (Entries.refused_at c) fits r.most refl r.is
 
 module _ {s : Setup} {ws : List ℕ} {room : ℕ} {f : Fit} {b : List Float} (count : ℕ) (fits : length ws ≤ room) (r : ReplayedTo s ws room f b) where
   -- the words end before the last of them
-  pub short_kept : f.extra.words ≡ length ws → f.extra.entries < count → entries_kept s count ws ≡ none
+  pub short_kept : f.extra.words ≡ length ws → f.extra.entries < count → entries_kept s count ws ≡ None
   unfolding after_entries
   short_kept e h =
       let end : drop f.extra.words ws ≡ [] = ap (λ (i : ℕ). drop i ws) e ∙ drop-length ws in
@@ -66,7 +66,7 @@ module _ {s : Setup} {ws : List ℕ} {room : ℕ} {f : Fit} {b : List Float} (co
       (ap (one_more room) (r.after ∙ ap (λ (l : List ℕ). Entries.going l r.replies (machine_of f b)) end))
 
   -- all of them are read
-  pub all_kept : f.extra.entries ≡ count → entries_kept s count ws ≡ some r.replies
+  pub all_kept : f.extra.entries ≡ count → entries_kept s count ws ≡ Some r.replies
   all_kept e = kept_in s ws count room fits ∙ ap stayed (ap (λ (i : ℕ). after_entries i room (first_entries s ws)) (sym e) ∙ r.after)
 
 -- ---- reading on to the end

@@ -1,6 +1,6 @@
 -- What the parts of a take back and of a restore do: words zeroed or copied, and the fit of a setup and entries built anew.
 use Rattle.std.specs.Prelude.{ℕ, ◌+◌, ◌-◌, ◌*◌, ◌≤◌, ◌<◌, ◌≡◌, true, cond, ◌⊎◌, List, ◌++◌, ltb, length, take, drop, replicate, Float}
-use Rattle.std.proofs.Math.Option.{none}
+use Rattle.std.specs.Prelude.{None, Result, Ok, Err}
 use Rattle.definition.specs.Number.{zero64}
 use Rattle.definition.specs.Problem as P
 use Rattle.definition.specs.Problem.{area_needed}
@@ -14,8 +14,9 @@ use Rattle.opening.specs.Opened.{setup_at}
 use Rattle.held.specs.Test.{shape_held, marked, Marks}
 use Rattle.record.specs.declared.Frame.{Frame}
 use Rattle.replay.specs.Replays.{Replayable, ReplayedTo, RefusedAt}
-use Rattle.replay.specs.declared.Replayed.{Replayed}
-use Rattle.replay.specs.declared.Replayed.TheVariants as R
+use Rattle.problem.specs.Setups.{refusal_of}
+use Rattle.problem.specs.declared.Refusal.{Refusal}
+use Rattle.problem.specs.declared.Refusal.TheVariants.{LogShort, Malformed}
 
 -- ---- words
 
@@ -36,19 +37,19 @@ headed ws l = ws ++ drop (length ws) l
 
 -- ---- what a replay leaves
 
-abbrev pub Markable : Replayed → ℕ → Type 0
-Markable (R.Done f) size = shape_held f.shape size ≡ true
-Markable (R.Refused c) size = Unit {0}
+abbrev pub Markable : Result Fit Refusal → ℕ → Type 0
+Markable (Ok f) size = shape_held f.shape size ≡ true
+Markable (Err c) size = Unit {0}
 
 -- the fit marked, or the area zeroed
-abbrev pub Settles : Replayed → List Float → List Float → Type 0
-Settles (R.Done f) a b = Marks f.shape a b
-Settles (R.Refused k) a b = b ≡ zeroed a
+abbrev pub Settles : Result Fit Refusal → List Float → List Float → Type 0
+Settles (Ok f) a b = Marks f.shape a b
+Settles (Err k) a b = b ≡ zeroed a
 
 -- the replay of a log's first `count` entries: refused where there are fewer
-abbrev pub all_of : Replayed → ℕ → Replayed
-all_of (R.Done f) count = cond (ltb f.extra.entries count) (R.Refused 17) (R.Done f)
-all_of (R.Refused c) count = R.Refused c
+abbrev pub all_of : Result Fit Refusal → ℕ → Result Fit Refusal
+all_of (Ok f) count = cond (ltb f.extra.entries count) (Err Malformed) (Ok f)
+all_of (Err c) count = Err c
 
 -- ---- a fit built from a setup and the words of entries
 
@@ -67,34 +68,34 @@ pub record Built (s : P.Setup) (ws : List ℕ) (limit room : ℕ) (a : List Floa
   pub is : Replayable s ws → ReplayedTo s ws room f b
 
 -- an entry is refused, for want of room only where there are more words than room: the area is zero
-pub record Unbuilt (s : P.Setup) (ws : List ℕ) (limit room size number : ℕ) (b : List Float) : Type 0 where
-  pub which : (number ≡ 17) ⊎ ((number ≡ 12) × (room < length ws))
+pub record Unbuilt (s : P.Setup) (ws : List ℕ) (limit room size : ℕ) (c : Refusal) (b : List Float) : Type 0 where
+  pub which : (c ≡ Malformed) ⊎ ((c ≡ LogShort) × (room < length ws))
   pub area : b ≡ replicate size zero64
-  pub is : Replayable s ws → RefusedAt s ws limit room number
+  pub is : Replayable s ws → RefusedAt s ws limit room (refusal_of c).number
 
-abbrev pub Builds : P.Setup → List ℕ → ℕ → ℕ → List Float → Replayed → List Float → Type 0
-Builds s ws limit room a (R.Done f) b = Built s ws limit room a f b
-Builds s ws limit room a (R.Refused c) b = Unbuilt s ws limit room (length a) c b
+abbrev pub Builds : P.Setup → List ℕ → ℕ → ℕ → List Float → Result Fit Refusal → List Float → Type 0
+Builds s ws limit room a (Ok f) b = Built s ws limit room a f b
+Builds s ws limit room a (Err c) b = Unbuilt s ws limit room (length a) c b
 
 -- an entry that is to stay is unknown, cut or not due: the area is zero
-pub record Cut (s : P.Setup) (ws : List ℕ) (count size number : ℕ) (b : List Float) : Type 0 where
-  pub which : number ≡ 17
+pub record Cut (s : P.Setup) (ws : List ℕ) (count size : ℕ) (c : Refusal) (b : List Float) : Type 0 where
+  pub which : c ≡ Malformed
   pub area : b ≡ replicate size zero64
-  pub is : entries_kept s count ws ≡ none
+  pub is : entries_kept s count ws ≡ None
 
 -- of a log's first `count` entries, all of which are to stay: the fit of just as many, or none; with any setup, as the definition reads them
-abbrev pub Stays : P.Setup → List ℕ → ℕ → ℕ → List Float → Replayed → List Float → Type 0
-Stays s ws count room a (R.Done f) b = Built s ws count room a f b × (f.extra.entries ≡ count) × ReplayedTo s ws room f b
-Stays s ws count room a (R.Refused c) b = Cut s ws count (length a) c b
+abbrev pub Stays : P.Setup → List ℕ → ℕ → ℕ → List Float → Result Fit Refusal → List Float → Type 0
+Stays s ws count room a (Ok f) b = Built s ws count room a f b × (f.extra.entries ≡ count) × ReplayedTo s ws room f b
+Stays s ws count room a (Err c) b = Cut s ws count (length a) c b
 
 -- ---- the log
 
 -- the words from the fit's last entry to another number are zero; as it was where an entry is refused
-abbrev pub Shortens : Replayed → ℕ → List ℕ → List ℕ → Type 0
-Shortens (R.Done f) to l m = m ≡ struck_out f.extra.words to l
-Shortens (R.Refused c) to l m = m ≡ l
+abbrev pub Shortens : Result Fit Refusal → ℕ → List ℕ → List ℕ → Type 0
+Shortens (Ok f) to l m = m ≡ struck_out f.extra.words to l
+Shortens (Err c) to l m = m ≡ l
 
 -- the words of the record's entries stand in front; as it was where one is refused
-abbrev pub Reloads : Replayed → List ℕ → Frame → List ℕ → List ℕ → Type 0
-Reloads (R.Done t) bs f l m = m ≡ headed (words_of t.extra.words (drop (f.at + 8 * f.setup) bs)) l
-Reloads (R.Refused c) bs f l m = m ≡ l
+abbrev pub Reloads : Result Fit Refusal → List ℕ → Frame → List ℕ → List ℕ → Type 0
+Reloads (Ok t) bs f l m = m ≡ headed (words_of t.extra.words (drop (f.at + 8 * f.setup) bs)) l
+Reloads (Err c) bs f l m = m ≡ l

@@ -1,10 +1,10 @@
 -- Laws of the array that holds a setup's vectors: how a loop fills it, and which parts of it are which vector. Assumes nothing.
 use Rattle.std.proofs.Common.{◌≡◌, ℕ, zero, suc, ◌+◌, ◌-◌, ◌*◌, ◌<◌, ◌≤◌, Bool, true, false, cond, List, [], ◌∷◌, ◌++◌, map, length, get_or, take, drop, set, replicate, sym, refl, ap, ◌∙◌, ap₂, add-one, arith, length-append, length-drop, length-take-le, drop-drop, rules}
+use Rattle.std.proofs.lemmas.List.{map-append, take-map, drop-map}
 use lib.ListN.{length-map}
 use lib.Seq.{take-append-le, drop-append-le}
 use lib.Ieee.{Float}
 use Rattle.definition.specs.Number.{to_float, zero64}
-use Rattle.definition.specs.Problem.{validate}
 use Rattle.definition.specs.Record.{number_of, words_of, floats_at, has_box, setup_in}
 use Rattle.definition.proofs.Bytes.{words_of-length}
 use Rattle.problem.specs.Setups as P
@@ -14,20 +14,6 @@ use Rattle.record.specs.Records.{words_in, floats_of, setup_from, OptionsIn, Pla
 use Rattle.record.proofs.Reading.{words_take, words-drop, options_setup}
 
 -- ---- lists
-
-map-append : {A B : Type 0} (f : A → B) (a b : List A) → map f (a ++ b) ≡ map f a ++ map f b
-map-append f [] b = refl
-map-append f (x ∷ a) b = ap (λ l. f x ∷ l) (map-append f a b)
-
-map-take : {A B : Type 0} (f : A → B) (k : ℕ) (l : List A) → take k (map f l) ≡ map f (take k l)
-map-take f zero l = refl
-map-take f (suc k) [] = refl
-map-take f (suc k) (x ∷ l) = ap (λ r. f x ∷ r) (map-take f k l)
-
-map-drop : {A B : Type 0} (f : A → B) (k : ℕ) (l : List A) → drop k (map f l) ≡ map f (drop k l)
-map-drop f zero l = refl
-map-drop f (suc k) [] = refl
-map-drop f (suc k) (x ∷ l) = map-drop f k l
 
 -- a part that lies within the first k
 part_within : {A : Type 0} (j n k : ℕ) (l : List A) → j + n ≤ k → take n (drop j (take k l)) ≡ take n (drop j l)
@@ -103,9 +89,9 @@ pub floats_part : (ws : List ℕ) (j n : ℕ) → j + n ≤ length ws → take n
 unfolding floats_of
 floats_part ws j n h =
     ap (take n) (drop-append-le j (map to_float ws) (replicate (768 - length ws) zero64) (omega (arith, length-map ws to_float))
-    ∙ ap (λ (l : List Float). l ++ replicate (768 - length ws) zero64) (map-drop to_float j ws))
+    ∙ ap (λ (l : List Float). l ++ replicate (768 - length ws) zero64) (drop-map to_float j ws))
     ∙ take-append-le n (map to_float (drop j ws)) (replicate (768 - length ws) zero64) (omega (arith, length-map (drop j ws) to_float, length-drop j ws))
-    ∙ map-take to_float n (drop j ws)
+    ∙ take-map to_float n (drop j ws)
 
 -- of a record's words, the part of the vectors' array is the part of the words
 pub vector_part : (ws : List ℕ) (k j n : ℕ) → 7 + k ≤ length ws → j + n ≤ k → take n (drop j (floats_of (take k (drop 7 ws)))) ≡ floats_at ws (7 + j) n
@@ -156,9 +142,6 @@ module _ (bs : List ℕ) (f : Frame) (h : Placed bs f) (whole : f.setup ≤ f.wo
       setup_same o _ _ _ _ _ _ laid_start (bounds_same o.bounded (λ e. laid_lower (sym k.bounded ∙ e)) (λ e. laid_upper (sym k.bounded ∙ e)))
       ∙ sym same
 
-  pub laid_most : f.n ≤ 255
-  laid_most = omega (arith, h.n)
-
   pub setup_most : f.setup ≤ 772
   setup_most = go (has_box (get_or (words_in bs f) 0 0)) _ _ (omega (arith, h.n)) h.setup
     where
@@ -169,22 +152,8 @@ module _ (bs : List ℕ) (f : Frame) (h : Placed bs f) (whole : f.setup ≤ f.wo
 -- ---- a record that opens
 
 module _ (bs : List ℕ) (area : ℕ) (o : Options) (f : Frame) (h : Opens bs area o f) where
-  -- what `vectors` asks
-  pub opened_room : (f.at + 8 * f.words ≤ length bs) × (7 ≤ f.setup) × (f.setup ≤ f.words) × (f.setup ≤ 775)
-  opened_room =
-      (omega (arith, h.placed.within), omega (arith, h.placed.setup), h.whole, omega (arith, setup_most bs f h.placed h.whole))
-
   -- the parts of its array are the vectors of the setup
   pub opened_setup : setup_from o (floats_of (take (f.setup - 7) (drop 7 (words_in bs f)))) f.n ≡ setup_in (words_in bs f)
   opened_setup = laid_setup bs f h.placed h.whole o h.options
-
--- the parts as they are lent
-pub parts_same : (o : Options) (v : List Float) (n : ℕ)
-    → validate (P.setup_in o (take (n - 0) v) (take (2 * n - n) (drop n v)) (take (3 * n - 2 * n) (drop (2 * n) v))) ≡ validate (setup_from o v n)
-parts_same o v n =
-    let a : n - 0 ≡ n = omega arith in
-    let b : 2 * n - n ≡ n = omega arith in
-    let c : 3 * n - 2 * n ≡ n = omega arith in
-    rw (a, b, c)
 
 pub ruleset laws = (rules, filling_more, filling_done)

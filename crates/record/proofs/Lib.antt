@@ -2,4 +2,3 @@ pub mod Words
 pub mod Reading
 pub mod Floats
 pub mod Saving
-pub mod Entry

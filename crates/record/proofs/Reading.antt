@@ -1,6 +1,6 @@
 -- Laws of reading: words by number, where a record stands, and what each check ahead of the entries makes of the definition's reading. Assumes nothing.
 use Rattle.std.proofs.Common.{◌≡◌, ℕ, zero, suc, ◌+◌, ◌-◌, ◌*◌, ◌/◌, ◌%◌, ◌<◌, ◌≤◌, Bool, true, false, cond, not, ◌&&◌, eqb, ltb, leb, List, ◌∷◌, length, get_or, take, drop, sym, refl, ap, ◌∙◌, ap₂, arith, length-drop, length-take-le, drop-drop, ltb-false, le-ltb, lt-ltb, eq-eqb, ne_eqb, le-leb, leb-false, leb-true}
-use mathlib.Core.Option.{none, some}
+use Rattle.std.specs.Prelude.{None, Some, Err}
 use borrow.Author.Tests.{lt-leb, not-true}
 use lib.ListN.{length-map, get_or-eq_default}
 use lib.Ieee.{Float}
@@ -15,11 +15,11 @@ use Rattle.definition.proofs.Accepted.{accepted_in_limits}
 use Rattle.problem.specs.Setups as P
 use Rattle.problem.specs.Setups.{refusal_of}
 use Rattle.problem.specs.declared.Options.{Options}
-use Rattle.problem.specs.declared.Refusal as Q
+use Rattle.problem.specs.declared.Refusal.{Refusal}
+use Rattle.problem.specs.declared.Refusal.TheVariants as Q
 use Rattle.record.specs.declared.Frame.{Frame}
-use Rattle.record.specs.declared.Parsed.TheVariants as A
 use Rattle.record.specs.Records.{trailer_in, framed_in, words_in, frame_from, frame_in, Placed, sums_agree}
-use Rattle.record.specs.Records.{Formed, OptionsIn, setup_by, refused_by, lengths, Opens, Parsing}
+use Rattle.record.specs.Records.{Formed, OptionsIn, setup_by, lengths, Opens, Parsing}
 
 -- ---- words by number
 
@@ -164,7 +164,7 @@ module _ (bs : List ℕ) (f : Frame) (h : Placed bs f) where
 
 -- ---- the definition's reading, check by check
 
-pub unframed : (bs : List ℕ) (area : ℕ) → framed_in bs ≡ false → Parsing bs area (refused_by 17 0)
+pub unframed : (bs : List ℕ) (area : ℕ) → framed_in bs ≡ false → Parsing bs area (Err Q.Malformed)
 unfolding read_record
 unframed bs area e room = go (ltb (length bs) 32) (framed (length bs) (trailer_in bs)) _ e
   where
@@ -181,18 +181,18 @@ module _ (bs : List ℕ) (f : Frame) (h : framed_in bs ≡ true) (e : f ≡ fram
       let k = framed_fits bs h in
       rw (e, le-ltb (length bs) 32 k.long, k.known)
 
-  pub sums_refused : (area : ℕ) → sums_agree bs f ≡ false → Parsing bs area (refused_by 18 0)
+  pub sums_refused : (area : ℕ) → sums_agree bs f ≡ false → Parsing bs area (Err Q.SumsDiffer)
   unfolding read_words check_words
   sums_refused area s room = read_words_lem (lengths area room) ∙ rw s
 
-  pub form_refused : (area : ℕ) → sums_agree bs f ≡ true → malformed (words_in bs f) ≡ true → Parsing bs area (refused_by 17 0)
+  pub form_refused : (area : ℕ) → sums_agree bs f ≡ true → malformed (words_in bs f) ≡ true → Parsing bs area (Err Q.Malformed)
   unfolding read_words check_words
   form_refused area s m room = read_words_lem (lengths area room) ∙ rw (s, m)
 
 -- ---- the setup by options and vectors
 
 -- a box where the flag says so
-box_by : (t : Bool) (l u : List Float) → cond t (some (P.box_of l u)) none ≡ P.bounds_in t l u
+box_by : (t : Bool) (l u : List Float) → cond t (Some (P.box_of l u)) None ≡ P.bounds_in t l u
 box_by true l u = refl
 box_by false l u = refl
 
@@ -231,7 +231,7 @@ setup_vectors bs f h l =
 pub pairs_most : (ws : List ℕ) (o : Options) → OptionsIn ws o → P.places_in o ≤ 255
 pairs_most ws o h = rw h.maxcor (go (maxcor_in (get_or ws 0 0)) (eqb (maxcor_in (get_or ws 0 0)) 0) (omega arith))
   where
-    go : (k : ℕ) (t : Bool) → k ≤ 255 → or_else (cond t none (some k)) 10 ≤ 255
+    go : (k : ℕ) (t : Bool) → k ≤ 255 → or_else (cond t None (Some k)) 10 ≤ 255
     go k true h = omega arith
     go k false h = h
 
@@ -256,14 +256,14 @@ module _ (bs : List ℕ) (f : Frame) (k : Formed bs f) where
   unfolding read_words check_words
   formed_reads z = read_words_lem bs f k.framed k.frame z ∙ rw (k.sums, k.form, ← formed_placed.setup)
 
-  pub rows_refused : (area : ℕ) (c : Q.Refusal) → some (refusal_of c) ≡ validate (setup_in (words_in bs f)) → Parsing bs area (A.Refused c)
+  pub rows_refused : (area : ℕ) (c : Refusal) → Some (refusal_of c) ≡ validate (setup_in (words_in bs f)) → Parsing bs area (Err c)
   rows_refused area c e room = formed_reads (lengths area room) ∙ rw (← e)
 
-  pub area_refused : (area need : ℕ) → none ≡ validate (setup_in (words_in bs f)) → need ≡ area_needed (setup_in (words_in bs f)) → area < need
-      → Parsing bs area (refused_by 11 need)
+  pub area_refused : (area need : ℕ) → None ≡ validate (setup_in (words_in bs f)) → need ≡ area_needed (setup_in (words_in bs f)) → area < need
+      → Parsing bs area (Err (Q.AreaShort need))
   area_refused area need e g l room = formed_reads (lengths area room) ∙ rw (← e, ← g, lt-ltb area need l)
 
-  pub opens : (area need : ℕ) (o : Options) → OptionsIn (words_in bs f) o → none ≡ validate (setup_in (words_in bs f)) → need ≡ area_needed (setup_in (words_in bs f))
+  pub opens : (area need : ℕ) (o : Options) → OptionsIn (words_in bs f) o → None ≡ validate (setup_in (words_in bs f)) → need ≡ area_needed (setup_in (words_in bs f))
       → need ≤ area
       → Opens bs area o f
   opens area need o same e g l =

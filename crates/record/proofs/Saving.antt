@@ -1,10 +1,10 @@
 -- Laws of writing: the setup's words by number, words written one behind the other with their sums, and the trailer. Assumes nothing.
 use Rattle.std.proofs.Common.{◌≡◌, ℕ, zero, suc, ◌+◌, ◌-◌, ◌*◌, ◌<◌, ◌≤◌, Bool, true, false, cond, List, [], ◌∷◌, ◌++◌, map, length, get_or, take, drop, sym, refl, ap, ◌∙◌, subst, ap₂, append_assoc, append-nil, add-one, arith, length-append, length-take-le, take_all, take-suc, get_or-append-add, rules}
-use mathlib.Core.Option.{Option, none, some}
+use Rattle.std.specs.Prelude.{Option, None, Some}
 use lib.ListN.{length-map, get_or-append}
 use lib.Ieee.{Float}
 use Rattle.definition.specs.Number.{to_word}
-use Rattle.definition.specs.Problem.{Scheme, or_else, most_pairs, validate}
+use Rattle.definition.specs.Problem.{or_else, most_pairs, validate}
 use Rattle.definition.specs.Machine.{Reply}
 use Rattle.definition.specs.Log.{log_words}
 use Rattle.definition.specs.Book.{book}
@@ -14,20 +14,11 @@ use Rattle.definition.proofs.Bytes.{bytes-length, bytes-append}
 use Rattle.definition.proofs.Accepted.{accepted_in_limits}
 use Rattle.problem.specs.declared.Options.{Options}
 use Rattle.problem.specs.Setups as P
-use Rattle.problem.specs.Setups.{count_of}
 use Rattle.record.specs.declared.Sums.{Sums}
 use Rattle.record.specs.Records.{sums_of, setup_size, leading_words, Savable, saved_words, saved_record, Summed, trailer_of, overwritten}
-use Rattle.record.proofs.Words.{put, put-append, put-length, bytes_count}
+use Rattle.record.proofs.Words.{sums_one, put, put-append, put-length, bytes_count}
 
 -- ---- the setup's words by number
-
-pub box_small : (t : Bool) → cond t 1 0 ≤ 1
-box_small true = omega arith
-box_small false = omega arith
-
-pub scheme_small : (s : Scheme) → scheme_flag s ≤ 2
-scheme_small Scheme.forward = omega arith
-scheme_small Scheme.central = omega arith
 
 -- the words of the bounds
 abbrev side_words : Options → List Float → List Float → List ℕ
@@ -47,18 +38,11 @@ float_word [] i d h = absurd (omega arith)
 float_word (x ∷ v) zero d h = refl
 float_word (x ∷ v) (suc i) d h = float_word v i d (omega arith)
 
-pub bound_first : (l u : List Float) (k : ℕ) (d : Float) → k < length l → to_word (get_or l k d) ≡ get_or (map to_word l ++ map to_word u) k 0
-bound_first l u k d h = float_word l k d h ∙ sym (get_or-append (map to_word l) (map to_word u) 0 k (omega (arith, length-map l to_word)))
-
 -- an element of the second list
 second_at : (a b : List ℕ) (k n : ℕ) → length a ≡ n → n ≤ k → get_or b (k - n) 0 ≡ get_or (a ++ b) k 0
 second_at a b k n e h =
     let whole : length a + (k - n) ≡ k = omega arith in
     sym (get_or-append-add a b (k - n) 0) ∙ ap (λ (i : ℕ). get_or (a ++ b) i 0) whole
-
-pub bound_second : (l u : List Float) (k : ℕ) (d : Float) → length l ≤ k → k < length l + length u
-    → to_word (get_or u (k - length l) d) ≡ get_or (map to_word l ++ map to_word u) k 0
-bound_second l u k d h m = float_word u (k - length l) d (omega arith) ∙ second_at (map to_word l) (map to_word u) k (length l) (length-map l to_word) h
 
 module _ (o : Options) (x0 l u : List Float) where
   pub leading_at : (i : ℕ) → i < 7 → get_or (leading_words o (length x0)) i 0 ≡ get_or (setup_words (P.setup_in o x0 l u)) i 0
@@ -75,12 +59,6 @@ module _ (o : Options) (x0 l u : List Float) where
   boxed : (t : Bool) → o.bounded ≡ t → (i : ℕ) → 7 ≤ i → length x0 ≤ i - 7 → i < setup_size t (length x0) → o.bounded ≡ true
   boxed true e i h m k = e
   boxed false e i h m k = absurd (omega arith)
-
-  pub bounds_room : Savable o x0 l u → (i : ℕ) → 7 ≤ i → length x0 ≤ i - 7 → i < setup_size o.bounded (length x0) → i - 7 - length x0 < length l + length u
-  bounds_room s i h m k =
-      let e = boxed o.bounded refl i h m k in
-      let f : i < setup_size true (length x0) = subst (λ (t : Bool). i < setup_size t (length x0)) e k in
-      omega (arith, s.lower e, s.upper e)
 
   pub bounds_at : Savable o x0 l u → (i : ℕ) → 7 ≤ i → length x0 ≤ i - 7 → i < setup_size o.bounded (length x0)
       → get_or (map to_word l ++ map to_word u) (i - 7 - length x0) 0 ≡ get_or (setup_words (P.setup_in o x0 l u)) i 0
@@ -106,41 +84,32 @@ module _ (o : Options) (x0 l u : List Float) where
       ∙ sides_length s o.bounded refl
 
   pub saved_first : Savable o x0 l u → (log : List ℕ) (i : ℕ) → i < setup_size o.bounded (length x0)
-      → get_or (setup_words (P.setup_in o x0 l u)) i 0 ≡ get_or (saved_words o x0 l u log) i 0
+      → get_or (setup_words (P.setup_in o x0 l u)) i 0 ≡ get_or (saved_words (P.setup_in o x0 l u) log) i 0
   saved_first s log i h = sym (get_or-append (setup_words (P.setup_in o x0 l u)) log 0 i (omega (arith, setup_size_lem s)))
 
   pub saved_second : Savable o x0 l u → (log : List ℕ) (i n : ℕ) → n ≡ setup_size o.bounded (length x0) → n ≤ i
-      → get_or log (i - n) 0 ≡ get_or (saved_words o x0 l u log) i 0
+      → get_or log (i - n) 0 ≡ get_or (saved_words (P.setup_in o x0 l u) log) i 0
   saved_second s log i n e h = second_at (setup_words (P.setup_in o x0 l u)) log i n (setup_size_lem s ∙ sym e) h
 
-  pub saved_size : Savable o x0 l u → (log : List ℕ) → length (saved_words o x0 l u log) ≡ setup_size o.bounded (length x0) + length log
+  pub saved_size : Savable o x0 l u → (log : List ℕ) → length (saved_words (P.setup_in o x0 l u) log) ≡ setup_size o.bounded (length x0) + length log
   saved_size s log = length-append (setup_words (P.setup_in o x0 l u)) log ∙ ap (λ (k : ℕ). k + length log) (setup_size_lem s)
 
 -- every accepted setup can be saved
-pub accepted_savable : (o : Options) (x0 l u : List Float) → validate (P.setup_in o x0 l u) ≡ none → Savable o x0 l u
+pub accepted_savable : (o : Options) (x0 l u : List Float) → validate (P.setup_in o x0 l u) ≡ None → Savable o x0 l u
 accepted_savable o x0 l u e =
     let k = accepted_in_limits (P.setup_in o x0 l u) e in
     record {
       most = k.coordinates.1;
-      pairs = given_small (count_of o.maxcor) k.pairs.1;
+      pairs = given_small o.maxcor k.pairs.1;
       lower = λ b. rw b at k.lower;
       upper = λ b. rw b at k.upper;
     }
   where
     given_small : (m : Option ℕ) → or_else m 10 ≤ most_pairs → or_else m 0 ≤ 255
-    given_small none h = omega arith
-    given_small (some m) h = omega arith
+    given_small None h = omega arith
+    given_small (Some m) h = omega arith
 
 -- ---- words one behind the other, with their sums
-
-sums-append : (a b : List ℕ) (t : R.Sums) → sums_from (a ++ b) t ≡ sums_from b (sums_from a t)
-unfolding sums_from
-sums-append [] b t = refl
-sums-append (w ∷ a) b t = sums-append a b (added w t)
-
-sums_one : (a : List ℕ) (w : ℕ) → sums (a ++ (w ∷ [])) ≡ added w (sums a)
-unfolding sums_from
-sums_one a w = sums-append a (w ∷ []) (record { plain = 0; running = 0 })
 
 bytes_one : (a : List ℕ) (w : ℕ) → bytes (a ++ (w ∷ [])) ≡ bytes a ++ bytes_of 8 w
 unfolding bytes
@@ -262,7 +231,7 @@ record_put ws out m r t count h e room f =
     ∙ ap (λ (b : List ℕ). overwritten b out) (sym (bytes-append ws (trailer ws)))
 
 -- with the log's words of replies it is their record
-pub saved_is : (o : Options) (x0 l u : List Float) (rs : List Reply) → bytes (saved_record o x0 l u (log_words rs)) ≡ record_bytes (book (P.setup_in o x0 l u) rs)
+pub saved_is : (o : Options) (x0 l u : List Float) (rs : List Reply) → bytes (saved_record (P.setup_in o x0 l u) (log_words rs)) ≡ record_bytes (book (P.setup_in o x0 l u) rs)
 unfolding record_bytes record_words
 saved_is o x0 l u rs = refl
 

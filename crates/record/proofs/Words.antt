@@ -1,7 +1,12 @@
 -- Laws of words and their bytes, and of the sums over words. Assumes nothing.
-use Rattle.std.proofs.Common.{◌≡◌, ℕ, zero, suc, ◌+◌, ◌-◌, ◌*◌, ◌/◌, ◌<◌, ◌≤◌, List, [], ◌∷◌, ◌++◌, length, get_or, take, drop, set, sym, refl, ap, ◌∙◌, ap₂, arith, length-append, drop-cons, drop-drop, rules}
+use Rattle.std.proofs.Common.{◌≡◌, ℕ, zero, suc, ◌+◌, ◌*◌, ◌/◌, ◌≤◌, List, [], ◌∷◌, ◌++◌, map, length, get_or, take, drop, set, sym, refl, ap, ◌∙◌, arith, length-append, drop-cons, drop-drop}
 use native.Mathlib.Numerals.{towards_suc}
 use lib.Seq.{sets, sets-eq, length-sets}
+use borrow.Rule.Slice.PartMut.{put_mid}
+use Rattle.std.specs.Int.{w64, from_le_bytes, to_le_bytes}
+use Rattle.std.proofs.lemmas.Slice.{put_mid-paste}
+use Rattle.std.proofs.lemmas.List.{map-append}
+use Rattle.std.specs.List.{range_with_len}
 use Rattle.definition.specs.Record.{Sums, added, sums, sums_from, bytes_of, number_of, words_of}
 
 -- ---- a word from bytes
@@ -14,21 +19,29 @@ drop_four l at h =
     ∙ ap (λ (r : List ℕ). get_or l at 0 ∷ get_or l (suc at) 0 ∷ r) (drop-cons l (suc (suc at)) 0 (omega arith))
     ∙ ap (λ (r : List ℕ). get_or l at 0 ∷ get_or l (suc at) 0 ∷ get_or l (suc (suc at)) 0 ∷ r) (drop-cons l (suc (suc (suc at))) 0 (omega arith)))
 
-pub half_number : (l : List ℕ) (at a b c d : ℕ) → at + 4 ≤ length l → a ≡ get_or l at 0 → b ≡ get_or l (at + 1) 0 → c ≡ get_or l (at + 2) 0 → d ≡ get_or l (at + 3) 0
-    → a + 256 * (b + 256 * (c + 256 * d)) ≡ number_of (take 4 (drop at l))
+pub word_number : (l : List ℕ) (at : ℕ) (bs : List ℕ) → at + 8 ≤ length l → bs ≡ take 8 (drop at l) → from_le_bytes w64 bs ≡ number_of (take 8 (drop at l))
 unfolding number_of
-half_number l at a b c d h p q r s = rw (drop_four l at h, p, q, r, s) (omega arith)
-
-pub word_number : (l : List ℕ) (at : ℕ) → at + 8 ≤ length l
-    → number_of (take 4 (drop at l)) + 4294967296 * number_of (take 4 (drop (at + 4) l)) ≡ number_of (take 8 (drop at l))
-unfolding number_of
-word_number l at h = rw (drop_four l at (omega arith)) (omega arith)
+word_number l at bs h e =
+    let four : at + 4 + 4 ≤ length l = omega arith in
+    rw (e, drop_four l at (omega arith), drop_four l (at + 4) four) (omega arith)
 
 -- ---- a word into bytes
 
-pub four_put : (l : List ℕ) (at a b c d : ℕ) → at + 4 ≤ length l
-    → set (set (set (set l at a) (at + 1) b) (at + 2) c) (at + 3) d ≡ take at l ++ (a ∷ b ∷ c ∷ d ∷ []) ++ drop (at + 4) l
-four_put l at a b c d h = simp towards_suc (simp towards_suc at (sets-eq (a ∷ b ∷ c ∷ d ∷ []) l at h))
+pub word_bytes : (w : ℕ) → to_le_bytes w64 w ≡ bytes_of 8 w
+unfolding bytes_of
+word_bytes w =
+    let two : w / 256 / 256 ≡ w / 65536 = omega arith in
+    let three : w / 256 / 256 / 256 ≡ w / 16777216 = omega arith in
+    let four : w / 256 / 256 / 256 / 256 ≡ w / 4294967296 = omega arith in
+    let five : w / 256 / 256 / 256 / 256 / 256 ≡ w / 1099511627776 = omega arith in
+    let six : w / 256 / 256 / 256 / 256 / 256 / 256 ≡ w / 281474976710656 = omega arith in
+    let seven : w / 256 / 256 / 256 / 256 / 256 / 256 / 256 ≡ w / 72057594037927936 = omega arith in
+    rw (seven, six, five, four, three, two)
+
+pub word-put : (l bs : List ℕ) (at k w : ℕ) → at + 8 ≤ length l → k ≡ 8 → bs ≡ bytes_of 8 w
+    → put_mid at k l bs ≡ take at l ++ bytes_of 8 w ++ drop (at + 8) l
+unfolding bytes_of
+word-put l bs at k w h e f = put_mid-paste at k l bs (bytes_of 8 w) 8 f (sym e) refl
 
 -- `bs` put from `at` on
 abbrev pub put : List ℕ → ℕ → List ℕ → List ℕ
@@ -58,52 +71,35 @@ unfolding bytes_of
 bytes_count zero w = refl
 bytes_count (suc k) w = ap suc (bytes_count k (w / 256))
 
-word_halves : (w : ℕ) → bytes_of 8 w ≡ bytes_of 4 w ++ bytes_of 4 (w / 4294967296)
-unfolding bytes_of
-word_halves w =
-    let e : w / 4294967296 ≡ w / 256 / 256 / 256 / 256 = omega arith in
-    rw e
-
-pub word-put : (l m : List ℕ) (at w : ℕ) → at + 8 ≤ length l → m ≡ take at l ++ bytes_of 4 w ++ drop (at + 4) l
-    → take (at + 4) m ++ bytes_of 4 (w / 4294967296) ++ drop (at + 4 + 4) m ≡ take at l ++ bytes_of 8 w ++ drop (at + 8) l
-unfolding bytes_of
-word-put l m at w h e =
-    let eight : at + 4 + 4 ≡ at + 8 = omega arith in
-    put-append l m at (bytes_of 4 w) (bytes_of 4 (w / 4294967296)) (omega arith) e ∙ ap (λ (b : List ℕ). take at l ++ b ++ drop (at + 8) l) (sym (word_halves w))
-
 -- ---- sums, word by word
 
-pub record Summing (bs : List ℕ) (at count i : ℕ) (t : Sums) : Type 0 where
-  pub reach : i ≤ count
-  pub rest : sums_from (words_of (count - i) (drop (at + 8 * i) bs)) t ≡ sums (words_of count (drop at bs))
+sums-append : (a b : List ℕ) (t : Sums) → sums_from (a ++ b) t ≡ sums_from b (sums_from a t)
+unfolding sums_from
+sums-append [] b t = refl
+sums-append (w ∷ a) b t = sums-append a b (added w t)
 
-pub summing_none : (bs : List ℕ) (at count : ℕ) → Summing bs at count 0 (record { plain = 0; running = 0 })
-summing_none bs at count =
-    let e : at + 8 * 0 ≡ at = omega arith in
-    let f : count - 0 ≡ count = omega arith in
-    record { reach = omega arith; rest = ap₂ (λ (k n : ℕ). sums (words_of n (drop k bs))) e f }
+pub sums_one : (a : List ℕ) (w : ℕ) → sums (a ++ (w ∷ [])) ≡ added w (sums a)
+unfolding sums_from
+sums_one a w = sums-append a (w ∷ []) (record { plain = 0; running = 0 })
 
-pub summing_more : {bs : List ℕ} {at count i : ℕ} {t u : Sums} {w : ℕ} → Summing bs at count i t → i < count → w ≡ number_of (take 8 (drop (at + 8 * i) bs))
-    → u ≡ added w t
-    → Summing bs at count (i + 1) u
-unfolding words_of sums_from
-summing_more {bs} {at} {count} {i} {t} {u} {w} h l e f =
-    let left : count - i ≡ suc (count - (i + 1)) = omega arith in
+-- the word of eight bytes, number i from `at` on
+abbrev pub numbered : List ℕ → ℕ → ℕ → ℕ
+numbered bs at i = number_of (take 8 (drop (at + 8 * i) bs))
+
+pub summing_more : (bs : List ℕ) (at : ℕ) (is : List ℕ) (i : ℕ) {t u : Sums} → t ≡ sums (map (numbered bs at) is) → u ≡ added (numbered bs at i) t
+    → u ≡ sums (map (numbered bs at) (is ++ (i ∷ [])))
+summing_more bs at is i h e =
+    e ∙ ap (added (numbered bs at i)) h ∙ sym (sums_one (map (numbered bs at) is) (numbered bs at i)) ∙ ap sums (sym (map-append (numbered bs at) is (i ∷ [])))
+
+pub numbered_words : (bs : List ℕ) (at i n : ℕ) → map (numbered bs at) (range_with_len i n) ≡ words_of n (drop (at + 8 * i) bs)
+unfolding words_of
+numbered_words bs at i zero = refl
+numbered_words bs at i (suc n) =
     let ahead : at + 8 * i + 8 ≡ at + 8 * (i + 1) = omega arith in
-    let next : drop 8 (drop (at + 8 * i) bs) ≡ drop (at + 8 * (i + 1)) bs = drop-drop 8 (at + 8 * i) bs ∙ ap (λ (k : ℕ). drop k bs) ahead in
-    record {
-      reach = omega arith;
-      rest =
-          ap (sums_from (words_of (count - (i + 1)) (drop (at + 8 * (i + 1)) bs))) f
-          ∙ ap₂ (λ (r : List ℕ) (v : ℕ). sums_from (words_of (count - (i + 1)) r) (added v t)) (sym next) e
-          ∙ ap (λ (n : ℕ). sums_from (words_of n (drop (at + 8 * i) bs)) t) (sym left)
-          ∙ h.rest;
-    }
+    ap (λ (ws : List ℕ). numbered bs at i ∷ ws)
+    (numbered_words bs at (i + 1) n ∙ ap (words_of n) (sym (drop-drop 8 (at + 8 * i) bs ∙ ap (λ (k : ℕ). drop k bs) ahead)))
 
-pub summing_done : {bs : List ℕ} {at count i : ℕ} {t : Sums} → Summing bs at count i t → count ≤ i → t ≡ sums (words_of count (drop at bs))
-unfolding words_of sums_from
-summing_done {bs} {at} {count} {i} {t} h l =
-    let e : count - i ≡ 0 = omega arith in
-    rw e at h.rest
-
-pub ruleset laws = (rules, summing_more, summing_done)
+-- no word yet
+pub summing_none : record { plain = 0; running = 0 } ≡ sums []
+unfolding sums_from
+summing_none = refl

@@ -1,6 +1,6 @@
 -- What reading a record answers, over the definition's `read_record` and the structs of the code; how long setups and entries are.
 use Rattle.std.specs.Prelude.{◌≡◌, ℕ, ◌+◌, ◌-◌, ◌*◌, ◌≤◌, Bool, true, false, cond, not, ◌&&◌, List, [], ◌∷◌, ◌++◌, map, length, take, drop, replicate, ◌==◌, nat_le, nat_lt, slice_index, slice_index_or, Float}
-use Rattle.std.proofs.Math.Option.{none}
+use Rattle.std.specs.Prelude.{None, Result, Ok, Err}
 use Rattle.definition.specs.Number.{to_float, zero64}
 use Rattle.definition.specs.Problem as D
 use Rattle.definition.specs.Problem.{validate, area_needed, most_coordinates, or_else}
@@ -10,12 +10,11 @@ use Rattle.definition.specs.Record.{words_of, framed, same_sums, malformed, n_in
 use Rattle.definition.specs.Record.{float_given, count_given, optional_float, scheme_flag, Reading, read_record, reading_of}
 use Rattle.problem.specs.declared.Options.{Options}
 use Rattle.problem.specs.Setups as P
-use Rattle.problem.specs.Setups.{float_of, count_of, scheme_of, refusal_of}
+use Rattle.problem.specs.declared.Refusal.{Refusal}
+use Rattle.problem.specs.Setups.{scheme_of, refusal_of}
 use Rattle.record.specs.declared.Sums.{Sums}
 use Rattle.record.specs.declared.Frame.{Frame}
-use Rattle.record.specs.declared.FirstWord.{FirstWord}
 use Rattle.record.specs.declared.Parsed.{Parsed}
-use Rattle.record.specs.declared.Parsed.TheVariants as A
 
 abbrev pub sums_of : Sums → R.Sums
 sums_of sums = record { plain = sums.plain; running = sums.running }
@@ -74,20 +73,15 @@ pub record Formed (bs : List ℕ) (f : Frame) : Type 0 where
 
 -- ---- the setup
 
-pub record FirstWordIn (word : ℕ) (first : FirstWord) : Type 0 where
-  pub bounded : first.bounded ≡ has_box word
-  pub maxcor : count_of first.maxcor ≡ count_given (maxcor_in word)
-  pub scheme : scheme_of first.scheme ≡ scheme_in word
-
 pub record OptionsIn (ws : List ℕ) (options : Options) : Type 0 where
   pub bounded : options.bounded ≡ has_box (slice_index ws 0)
-  pub maxiter : count_of options.maxiter ≡ count_given (slice_index ws 1)
-  pub maxfev : count_of options.maxfev ≡ count_given (slice_index ws 2)
-  pub tol : float_of options.tol ≡ float_given (slice_index ws 3)
-  pub ftol : float_of options.ftol ≡ float_given (slice_index ws 4)
-  pub gtol : float_of options.gtol ≡ float_given (slice_index ws 5)
-  pub maxcor : count_of options.maxcor ≡ count_given (maxcor_in (slice_index ws 0))
-  pub eps : float_of options.eps ≡ float_given (slice_index ws 6)
+  pub maxiter : options.maxiter ≡ count_given (slice_index ws 1)
+  pub maxfev : options.maxfev ≡ count_given (slice_index ws 2)
+  pub tol : options.tol ≡ float_given (slice_index ws 3)
+  pub ftol : options.ftol ≡ float_given (slice_index ws 4)
+  pub gtol : options.gtol ≡ float_given (slice_index ws 5)
+  pub maxcor : options.maxcor ≡ count_given (maxcor_in (slice_index ws 0))
+  pub eps : options.eps ≡ float_given (slice_index ws 6)
   pub scheme : scheme_of options.scheme ≡ scheme_in (slice_index ws 0)
 
 -- the floats of words, in an array of 768
@@ -104,9 +98,6 @@ setup_from options floats n = P.setup_in options (take n floats) (take n (drop n
 
 -- ---- the answer of the checks ahead of the entries
 
-abbrev pub refused_by : ℕ → ℕ → Parsed
-refused_by number first = A.Refused (record { number = number; first = first; second = 0 })
-
 abbrev pub lengths : ℕ → ℕ → R.Lengths
 lengths area room = record { area = area; log = room }
 
@@ -117,47 +108,47 @@ pub record Opens (bs : List ℕ) (area : ℕ) (o : Options) (f : Frame) : Type 0
   pub most : f.n ≤ most_coordinates
   pub options : OptionsIn (words_in bs f) o
   pub same : R.setup_in (words_in bs f) ≡ setup_by (words_in bs f) o f.n
-  pub accepted : validate (R.setup_in (words_in bs f)) ≡ none
+  pub accepted : validate (R.setup_in (words_in bs f)) ≡ None
   pub room : area_needed (R.setup_in (words_in bs f)) ≤ area
   pub reads : (room : ℕ)
       → read_record (lengths area room) bs ≡ reading_of (R.setup_in (words_in bs f)) (entries_of (R.setup_in (words_in bs f)) room (drop f.setup (words_in bs f)))
 
 -- refused as the definition refuses, whatever the room in the log; or the setup stands
-abbrev pub Parsing : List ℕ → ℕ → Parsed → Type 0
-Parsing bs area (A.Refused refusal) = (room : ℕ) → read_record (lengths area room) bs ≡ Reading.refused (refusal_of refusal)
-Parsing bs area (A.Setup options frame) = Opens bs area options frame
+abbrev pub Parsing : List ℕ → ℕ → Result Parsed Refusal → Type 0
+Parsing bs area (Err refusal) = (room : ℕ) → read_record (lengths area room) bs ≡ Reading.refused (refusal_of refusal)
+Parsing bs area (Ok parsed) = Opens bs area parsed.options parsed.frame
 
 -- ---- writing
 
 -- word 0 of a setup of n coordinates
 abbrev pub first_word : Options → ℕ → ℕ
-first_word options n = n + 256 * or_else (count_of options.maxcor) 0 + 65536 * (cond options.bounded 1 0 + scheme_flag (scheme_of options.scheme))
+first_word options n = n + 256 * or_else options.maxcor 0 + 65536 * (cond options.bounded 1 0 + scheme_flag (scheme_of options.scheme))
 
 -- the seven words ahead of the vectors
 abbrev pub leading_words : Options → ℕ → List ℕ
 leading_words options n =
     first_word options n
-    ∷ or_else (count_of options.maxiter) 0
-    ∷ or_else (count_of options.maxfev) 0
-    ∷ optional_float (float_of options.tol)
-    ∷ optional_float (float_of options.ftol)
-    ∷ optional_float (float_of options.gtol)
-    ∷ optional_float (float_of options.eps)
+    ∷ or_else options.maxiter 0
+    ∷ or_else options.maxfev 0
+    ∷ optional_float options.tol
+    ∷ optional_float options.ftol
+    ∷ optional_float options.gtol
+    ∷ optional_float options.eps
     ∷ []
 
 -- what every accepted setup keeps to
 pub record Savable (options : Options) (x0 l u : List Float) : Type 0 where
   pub most : length x0 ≤ most_coordinates
-  pub pairs : or_else (count_of options.maxcor) 0 ≤ 255
+  pub pairs : or_else options.maxcor 0 ≤ 255
   pub lower : options.bounded ≡ true → length l ≡ length x0
   pub upper : options.bounded ≡ true → length u ≡ length x0
 
 -- the words before the trailer, and all of a record's
-abbrev pub saved_words : Options → List Float → List Float → List Float → List ℕ → List ℕ
-saved_words options x0 lower upper log = R.setup_words (P.setup_in options x0 lower upper) ++ log
+abbrev pub saved_words : D.Setup → List ℕ → List ℕ
+saved_words setup log = R.setup_words setup ++ log
 
-abbrev pub saved_record : Options → List Float → List Float → List Float → List ℕ → List ℕ
-saved_record options x0 lower upper log = saved_words options x0 lower upper log ++ R.trailer (saved_words options x0 lower upper log)
+abbrev pub saved_record : D.Setup → List ℕ → List ℕ
+saved_record setup log = saved_words setup log ++ R.trailer (saved_words setup log)
 
 abbrev pub trailer_of : Sums → ℕ → List ℕ
 trailer_of sums count = sums.plain ∷ sums.running ∷ R.written_version ∷ count ∷ []

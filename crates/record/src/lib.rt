@@ -7,12 +7,12 @@ ghost use Rattle.definition.specs.Problem.{validate, or_else};
 ghost use Rattle.definition.specs.Record.{number_of, bytes_of, words_of, sums as sums_over, added as added_to};
 ghost use Rattle.definition.specs.Record.{float_given, count_given, has_box, setup_length as setup_length_of, scheme_in, setup_in, malformed};
 ghost use Rattle.definition.specs.Record.{optional_float, scheme_flag, setup_words, bytes};
-ghost use Rattle.problem.specs.Setups.{float_of, count_of, scheme_of, check_of, setup_in as setup_of};
+ghost use Rattle.problem.specs.Setups.{scheme_of, check_of, setup_of};
 ghost use Rattle.record.specs.Records.{sums_of, setup_size, entry_size, framed_in, frame_in, words_in, sums_agree, Placed};
-ghost use Rattle.record.specs.Records.{Formed, FirstWordIn, OptionsIn, floats_of, setup_from, refused_by, Parsing};
+ghost use Rattle.record.specs.Records.{Formed, OptionsIn, floats_of, setup_from, Parsing};
 ghost use Rattle.record.specs.Records.{first_word, leading_words, Savable, saved_words, saved_record, Summed, trailer_of, overwritten};
 
-use problem::{Checked, MaybeCount, MaybeFloat, Options, Refusal, Scheme};
+use problem::{Options, Refusal, Scheme, Setup};
 
 // The one version that is read and written.
 const VERSION: u64 = 1;
@@ -23,54 +23,14 @@ const SPARE: u64 = 0x4_0000;
 // The word of a float that is absent.
 const ABSENT: u64 = 0x7FF8_0000_0000_0000;
 
-// The refusals of a record, by document 01's numbers.
-const AREA_SHORT: usize = 11;
-
-const MALFORMED: usize = 17;
-
-const SUMS_DIFFER: usize = 18;
-
 // ---- words and bytes
-
-// A byte, as a word.
-fn byte_at(input: &[u8], at: usize) -> u64
-    requires { at < length input.now }
-    ensures { (result ≡ slice_index input.now at) × (result < 256) }
-{
-    input[at] as u64
-}
-
-// The number of the four bytes from `at` on, the lowest first.
-fn half_at(input: &[u8], at: usize) -> u64
-    requires { at + 4 ≤ length input.now }
-    ensures { (result ≡ number_of (take 4 (drop at input.now))) × (result < 4294967296) }
-{
-    let first = byte_at(input, at);
-    let second = byte_at(input, at + 1);
-    let third = byte_at(input, at + 2);
-    let fourth = byte_at(input, at + 3);
-    first + 256 * (second + 256 * (third + 256 * fourth))
-}
 
 // The word of the eight bytes from `at` on, the lowest first.
 pub fn word_at(input: &[u8], at: usize) -> u64
     requires { at + 8 ≤ length input.now }
     ensures { result ≡ number_of (take 8 (drop at input.now)) }
 {
-    let low = half_at(input, at);
-    let high = half_at(input, at + 4);
-    low + 0x1_0000_0000 * high
-}
-
-// The four lowest bytes of a word, from `at` on.
-fn put_half(out: &mut [u8], at: usize, word: u64)
-    requires { at + 4 ≤ length out.old }
-    ensures { out.new ≡ take at out.old ++ bytes_of 4 word ++ drop (at + 4) out.old }
-{
-    out[at] = (word % 256) as u8;
-    out[at + 1] = (word / 256 % 256) as u8;
-    out[at + 2] = (word / 256 / 256 % 256) as u8;
-    out[at + 3] = (word / 256 / 256 / 256 % 256) as u8;
+    u64::from_le_bytes(*input[at..].first_chunk().unwrap())
 }
 
 // The eight bytes of a word, from `at` on, the lowest first.
@@ -78,8 +38,7 @@ pub fn put_word(out: &mut [u8], at: usize, word: u64)
     requires { at + 8 ≤ length out.old }
     ensures { out.new ≡ take at out.old ++ bytes_of 8 word ++ drop (at + 8) out.old }
 {
-    put_half(out, at, word);
-    put_half(out, at + 4, word / 0x1_0000_0000);
+    out[at..at + 8].copy_from_slice(&word.to_le_bytes());
 }
 
 // ---- the sums
@@ -95,12 +54,9 @@ pub struct Sums {
 fn added(sums: Sums, word: u64) -> Sums
     ensures { sums_of result ≡ added_to word (sums_of sums) }
 {
-    let plain = std::num::wrapping_add_u64(sums.plain, word);
-    let running = std::num::wrapping_add_u64(sums.running, plain);
-    Sums {
-        plain: plain,
-        running: running,
-    }
+    let plain = sums.plain.wrapping_add(word);
+    let running = sums.running.wrapping_add(plain);
+    Sums { plain, running }
 }
 
 // The sums of `count` words from the byte `at` on.
@@ -108,49 +64,42 @@ fn sums_at(input: &[u8], at: usize, count: usize) -> Sums
     requires { at + 8 * count ≤ length input.now }
     ensures { sums_of result ≡ sums_over (words_of count (drop at input.now)) }
 {
-    let mut sums = Sums {
+    let none = Sums {
         plain: 0,
         running: 0,
     };
-    let mut i = 0;
-    while i < count {
-        sums = added(sums, word_at(input, at + 8 * i));
-        i += 1;
-    }
-    sums
+    (0..count).fold(none, |sums, i| added(sums, word_at(input, at + 8 * i)))
 }
 
 // ---- lengths
+
+// The words of a setup of n coordinates, with or without a box.
+fn setup_size(bounded: bool, n: usize) -> usize
+    requires { n ≤ 65536 }
+    ensures { result ≡ setup_size bounded n }
+{
+    7 + if bounded { 3 * n } else { n }
+}
 
 // The words of a setup of n coordinates.
 pub fn setup_words(options: Options, n: usize) -> usize
     requires { n ≤ 65536 }
     ensures { result ≡ setup_size options.bounded n }
 {
-    if options.bounded {
-        return 7 + 3 * n;
-    }
-    7 + n
+    setup_size(options.bounded, n)
 }
 
-// The words of an entry of a kind, where there are n coordinates; 0 where the kind is unknown.
-pub fn entry_length(kind: u64, n: usize) -> usize
+// The words of an entry of a kind, where there are n coordinates; none where the kind is unknown.
+pub fn entry_length(kind: u64, n: usize) -> Option<usize>
     requires { n ≤ 65536 }
-    ensures { result ≡ entry_size kind n }
+    ensures { result ≡ count_given (entry_size kind n) }
 {
-    if kind == 1 {
-        return 2;
+    match kind {
+        1 => Some(2),
+        2 => Some(n + 1),
+        3..=6 => Some(1),
+        _ => None,
     }
-    if kind == 2 {
-        return n + 1;
-    }
-    if kind == 0 {
-        return 0;
-    }
-    if kind <= 6 {
-        return 1;
-    }
-    0
 }
 
 // ---- reading
@@ -166,9 +115,9 @@ pub struct Frame {
 
 // What the checks ahead of the entries find.
 #[derive(Clone, Copy)]
-pub enum Parsed {
-    Refused(Refusal),
-    Setup(Options, Frame),
+pub struct Parsed {
+    pub options: Options,
+    pub frame: Frame,
 }
 
 // At least a trailer, a known version, and as many words as the trailer says.
@@ -192,20 +141,17 @@ fn word_of(input: &[u8], at: usize, words: usize, i: usize) -> u64
     ensures { result ≡ slice_index (words_of words (drop at input.now)) i }
 {
     if i < words {
-        return word_at(input, at + 8 * i);
+        word_at(input, at + 8 * i)
+    } else {
+        0
     }
-    0
 }
 
 // The words of a setup, from its first.
 fn setup_length(word: u64) -> usize
     ensures { result ≡ setup_length_of word }
 {
-    let n = (word % 256) as usize;
-    if has_box(word) {
-        return 7 + 3 * n;
-    }
-    7 + n
+    setup_size(has_box(word), (word % 256) as usize)
 }
 
 // Whether word 0 of a setup says that there is a box.
@@ -226,9 +172,9 @@ fn frame_of(input: &[u8]) -> Frame
     let first = word_of(input, at, words, 0);
     let n = (first % 256) as usize;
     Frame {
-        at: at,
-        words: words,
-        n: n,
+        at,
+        words,
+        n,
         setup: setup_length(first),
     }
 }
@@ -240,10 +186,7 @@ fn sums_agree(input: &[u8], frame: Frame) -> bool
 {
     let sums = sums_at(input, frame.at, frame.words);
     let end = frame.at + 8 * frame.words;
-    if sums.plain != word_at(input, end) {
-        return false;
-    }
-    sums.running == word_at(input, end + 8)
+    sums.plain == word_at(input, end) && sums.running == word_at(input, end + 8)
 }
 
 // Fewer words than the setup's, or spare bits in its first.
@@ -251,30 +194,25 @@ fn is_malformed(input: &[u8], frame: Frame) -> bool
     requires { Placed input.now frame }
     ensures { result ≡ malformed (words_in input.now frame) }
 {
-    if frame.words < frame.setup {
-        return true;
-    }
-    SPARE <= word_of(input, frame.at, frame.words, 0)
+    frame.words < frame.setup || SPARE <= word_of(input, frame.at, frame.words, 0)
 }
 
 // A float that may be absent.
-fn float_given(word: u64) -> MaybeFloat
-    ensures { float_of result ≡ float_given word }
+fn float_given(word: u64) -> Option<f64>
+    ensures { result ≡ float_given word }
 {
     if word == ABSENT {
-        return MaybeFloat::Absent;
+        None
+    } else {
+        Some(float::word_to_float(word))
     }
-    MaybeFloat::Given(float::word_to_float(word))
 }
 
 // A count that may be absent.
-fn count_given(word: u64) -> MaybeCount
-    ensures { count_of result ≡ count_given word }
+fn count_given(word: u64) -> Option<usize>
+    ensures { result ≡ count_given word }
 {
-    if word == 0 {
-        return MaybeCount::Absent;
-    }
-    MaybeCount::Given(word as usize)
+    if word == 0 { None } else { Some(word as usize) }
 }
 
 // The scheme of differences, by word 0.
@@ -282,41 +220,24 @@ fn scheme_in(word: u64) -> Scheme
     ensures { scheme_of result ≡ scheme_in word }
 {
     if word / 0x2_0000 % 2 == 1 {
-        return Scheme::Central;
-    }
-    Scheme::Forward
-}
-
-// What word 0 of a setup says besides n.
-#[derive(Clone, Copy)]
-struct FirstWord {
-    bounded: bool,
-    maxcor: MaybeCount,
-    scheme: Scheme,
-}
-
-fn first_word_in(word: u64) -> FirstWord
-    ensures { FirstWordIn word result }
-{
-    FirstWord {
-        bounded: has_box(word),
-        maxcor: count_given(word / 256 % 256),
-        scheme: scheme_in(word),
+        Scheme::Central
+    } else {
+        Scheme::Forward
     }
 }
 
 // Word i of the record, a float that may be absent.
-fn float_of(input: &[u8], frame: Frame, i: usize) -> MaybeFloat
+fn float_of(input: &[u8], frame: Frame, i: usize) -> Option<f64>
     requires { Placed input.now frame }
-    ensures { float_of result ≡ float_given (slice_index (words_in input.now frame) i) }
+    ensures { result ≡ float_given (slice_index (words_in input.now frame) i) }
 {
     float_given(word_of(input, frame.at, frame.words, i))
 }
 
 // Word i of the record, a count that may be absent.
-fn count_of(input: &[u8], frame: Frame, i: usize) -> MaybeCount
+fn count_of(input: &[u8], frame: Frame, i: usize) -> Option<usize>
     requires { Placed input.now frame }
-    ensures { count_of result ≡ count_given (slice_index (words_in input.now frame) i) }
+    ensures { result ≡ count_given (slice_index (words_in input.now frame) i) }
 {
     count_given(word_of(input, frame.at, frame.words, i))
 }
@@ -326,39 +247,29 @@ fn options_of(input: &[u8], frame: Frame) -> Options
     requires { Placed input.now frame }
     ensures { OptionsIn (words_in input.now frame) result }
 {
-    let first = first_word_in(word_of(input, frame.at, frame.words, 0));
-    let maxcor = first.maxcor;
-    let scheme = first.scheme;
+    let first = word_of(input, frame.at, frame.words, 0);
     Options {
-        bounded: first.bounded,
+        bounded: has_box(first),
         maxiter: count_of(input, frame, 1),
         maxfev: count_of(input, frame, 2),
         tol: float_of(input, frame, 3),
         ftol: float_of(input, frame, 4),
         gtol: float_of(input, frame, 5),
-        maxcor: maxcor,
+        maxcor: count_given(first / 256 % 256),
         eps: float_of(input, frame, 6),
-        scheme: scheme,
+        scheme: scheme_in(first),
     }
 }
 
-// Room for the vectors of a setup of up to 255 coordinates.
-fn zeros() -> [f64; 768]
-    ensures { result ≡ replicate 768 zero64 }
-{
-    [0.0; 768]
-}
-
 // The floats of `count` words from the byte `at` on, then zeros.
+// Kept: `array::from_fn` asks at each of the 768 whether it is a word's, and takes 647 ns for 9 words where this loop takes 54.
 fn floats_at(input: &[u8], at: usize, count: usize) -> [f64; 768]
     requires { (at + 8 * count ≤ length input.now) × (count ≤ 768) }
     ensures { result ≡ floats_of (words_of count (drop at input.now)) }
 {
-    let mut floats = zeros();
-    let mut i = 0;
-    while i < count {
+    let mut floats = [0.0; 768];
+    for i in 0..count {
         floats[i] = float::word_to_float(word_at(input, at + 8 * i));
-        i += 1;
     }
     floats
 }
@@ -371,91 +282,67 @@ pub fn vectors(input: &[u8], frame: Frame) -> [f64; 768]
     floats_at(input, frame.at + 56, frame.setup - 7)
 }
 
-// The setup's rows of the table, by options and three vectors of n words one behind the other.
-fn check_parts(options: Options, floats: &[f64], n: usize) -> Checked
-    requires { 3 * n ≤ length floats.now }
-    ensures { check_of result ≡ validate (setup_from options floats.now n) }
+// The setup of options and three vectors of n words one behind the other.
+pub fn setup_from(options: Options, vectors: &[f64], n: usize) -> Setup<'_>
+    requires { 3 * n ≤ length vectors.now }
+    ensures setup { setup_of result ≡ setup_from options vectors.now n }
+    ensures options { result.options ≡ options }
 {
-    problem::validate(
+    Setup {
         options,
-        &floats[0..n],
-        &floats[n..2 * n],
-        &floats[2 * n..3 * n],
-    )
+        x0: &vectors[..n],
+        lower: &vectors[n..2 * n],
+        upper: &vectors[2 * n..3 * n],
+    }
 }
 
-// The setup's rows of the table.
-fn check_rows(input: &[u8], frame: Frame, options: Options) -> Checked
+// The setup's refusals.
+fn check_rows(input: &[u8], frame: Frame, options: Options) -> Result<(), Refusal>
     requires { Placed input.now frame × (frame.setup ≤ frame.words) × OptionsIn (words_in input.now frame) options }
     ensures { check_of result ≡ validate (setup_in (words_in input.now frame)) }
 {
-    let floats = vectors(input, frame);
-    check_parts(options, &floats, frame.n)
+    let vectors = vectors(input, frame);
+    setup_from(options, &vectors, frame.n).validate()
 }
 
-fn refused(number: usize, first: usize) -> Parsed
-    ensures { result ≡ refused_by number first }
-{
-    Parsed::Refused(Refusal {
-        number: number,
-        first: first,
-        second: 0,
-    })
-}
-
-// A record whose sums and form are right: the setup's rows, then the area.
-fn check_setup(input: &[u8], frame: Frame, available: usize) -> Parsed
+// A record whose sums and form are right: the setup's refusals, then the area.
+fn check_setup(input: &[u8], frame: Frame, available: usize) -> Result<Parsed, Refusal>
     requires { Formed input.now frame }
     ensures { Parsing input.now available result }
 {
     let options = options_of(input, frame);
-    let rows = check_rows(input, frame, options);
-    if let Checked::Refused(refusal) = rows {
-        return Parsed::Refused(refusal);
-    }
-    let needed = area::words(frame.n, problem::places(options));
+    check_rows(input, frame, options)?;
+    let needed = area::words(frame.n, options.places());
     if available < needed {
-        return refused(AREA_SHORT, needed);
+        return Err(Refusal::AreaShort { needed });
     }
-    Parsed::Setup(options, frame)
+    Ok(Parsed { options, frame })
 }
 
 // The checks of a record ahead of its entries, for a working area of `available` words: of any bytes, the first refusal, or the setup and
 // where it stands.
-pub fn check(input: &[u8], available: usize) -> Parsed
+pub fn check(input: &[u8], available: usize) -> Result<Parsed, Refusal>
     ensures { Parsing input.now available result }
 {
     if !is_framed(input) {
-        return refused(MALFORMED, 0);
+        return Err(Refusal::Malformed);
     }
     let frame = frame_of(input);
     if !sums_agree(input, frame) {
-        return refused(SUMS_DIFFER, 0);
+        return Err(Refusal::SumsDiffer);
     }
     if is_malformed(input, frame) {
-        return refused(MALFORMED, 0);
+        return Err(Refusal::Malformed);
     }
     check_setup(input, frame, available)
 }
 
 // ---- writing
 
-fn count_word(maybe: MaybeCount) -> u64
-    ensures { result ≡ or_else (count_of maybe) 0 }
+fn float_word(value: Option<f64>) -> u64
+    ensures { result ≡ optional_float value }
 {
-    match maybe {
-        MaybeCount::Given(count) => count as u64,
-        MaybeCount::Absent => 0,
-    }
-}
-
-fn float_word(maybe: MaybeFloat) -> u64
-    ensures { result ≡ optional_float (float_of maybe) }
-{
-    match maybe {
-        MaybeFloat::Given(x) => float::float_to_word(x),
-        MaybeFloat::Absent => ABSENT,
-    }
+    value.map_or(ABSENT, float::float_to_word)
 }
 
 fn scheme_flag(scheme: Scheme) -> u64
@@ -470,52 +357,32 @@ fn scheme_flag(scheme: Scheme) -> u64
 fn box_flag(bounded: bool) -> u64
     ensures { result ≡ (if bounded then 1 else 0) }
 {
-    if bounded { 1 } else { 0 }
+    u64::from(bounded)
 }
 
 // Word 0 of a setup of n coordinates.
 fn first_word(options: Options, n: usize) -> u64
-    requires { (n ≤ 255) × (or_else (count_of options.maxcor) 0 ≤ 255) }
+    requires { (n ≤ 255) × (or_else options.maxcor 0 ≤ 255) }
     ensures { result ≡ first_word options n }
 {
-    let maxcor = options.maxcor;
-    let scheme = options.scheme;
-    let flags = box_flag(options.bounded) + scheme_flag(scheme);
-    let size = n as u64;
-    let pairs = count_word(maxcor);
-    size + 256 * pairs + 65536 * flags
+    let flags = box_flag(options.bounded) + scheme_flag(options.scheme);
+    n as u64 + 256 * options.maxcor.unwrap_or(0) as u64 + 65536 * flags
 }
 
 // Word i of the seven ahead of the vectors.
 fn leading_word(options: Options, n: usize, i: usize) -> u64
-    requires { (n ≤ 255) × (or_else (count_of options.maxcor) 0 ≤ 255) × (i < 7) }
+    requires { (n ≤ 255) × (or_else options.maxcor 0 ≤ 255) × (i < 7) }
     ensures { result ≡ slice_index (leading_words options n) i }
 {
-    let maxiter = options.maxiter;
-    let maxfev = options.maxfev;
-    let tol = options.tol;
-    let ftol = options.ftol;
-    let gtol = options.gtol;
-    let eps = options.eps;
-    if i == 0 {
-        return first_word(options, n);
+    match i {
+        0 => first_word(options, n),
+        1 => options.maxiter.unwrap_or(0) as u64,
+        2 => options.maxfev.unwrap_or(0) as u64,
+        3 => float_word(options.tol),
+        4 => float_word(options.ftol),
+        5 => float_word(options.gtol),
+        _ => float_word(options.eps),
     }
-    if i == 1 {
-        return count_word(maxiter);
-    }
-    if i == 2 {
-        return count_word(maxfev);
-    }
-    if i == 3 {
-        return float_word(tol);
-    }
-    if i == 4 {
-        return float_word(ftol);
-    }
-    if i == 5 {
-        return float_word(gtol);
-    }
-    float_word(eps)
 }
 
 // Word i of the bounds, lower before upper.
@@ -531,64 +398,51 @@ fn bound_word(lower: &[f64], upper: &[f64], i: usize) -> u64
 }
 
 // Word i of the setup.
-fn setup_word(options: Options, x0: &[f64], lower: &[f64], upper: &[f64], i: usize) -> u64
-    requires { Savable options x0.now lower.now upper.now × (i < setup_size options.bounded (length x0.now)) }
-    ensures { result ≡ slice_index (setup_words (setup_of options x0.now lower.now upper.now)) i }
+fn setup_word(setup: Setup, i: usize) -> u64
+    requires { Savable setup.options setup.x0.now setup.lower.now setup.upper.now
+        × (i < setup_size setup.options.bounded (length setup.x0.now)) }
+    ensures { result ≡ slice_index (setup_words (setup_of setup.entry)) i }
 {
-    let n = x0.len();
+    let n = setup.x0.len();
     if i < 7 {
-        return leading_word(options, n, i);
+        return leading_word(setup.options, n, i);
     }
     if i - 7 < n {
-        return float::float_to_word(x0[i - 7]);
+        return float::float_to_word(setup.x0[i - 7]);
     }
-    bound_word(lower, upper, i - 7 - n)
+    bound_word(setup.lower, setup.upper, i - 7 - n)
 }
 
 // Word i of the setup and the log.
-fn saved_word(
-    options: Options,
-    x0: &[f64],
-    lower: &[f64],
-    upper: &[f64],
-    log: &[u64],
-    i: usize,
-) -> u64
-    requires { Savable options x0.now lower.now upper.now × (i < setup_size options.bounded (length x0.now) + length log.now) }
-    ensures { result ≡ slice_index (setup_words (setup_of options x0.now lower.now upper.now) ++ log.now) i }
+fn saved_word(setup: Setup, log: &[u64], i: usize) -> u64
+    requires { Savable setup.options setup.x0.now setup.lower.now setup.upper.now
+        × (i < setup_size setup.options.bounded (length setup.x0.now) + length log.now) }
+    ensures { result ≡ slice_index (saved_words (setup_of setup.entry) log.now) i }
 {
-    let size = setup_words(options, x0.len());
+    let size = setup_words(setup.options, setup.x0.len());
     if i < size {
-        return setup_word(options, x0, lower, upper, i);
+        setup_word(setup, i)
+    } else {
+        log[i - size]
     }
-    log[i - size]
 }
 
 // The setup and the log from the first byte on, and their sums.
-fn put_words(
-    options: Options,
-    x0: &[f64],
-    lower: &[f64],
-    upper: &[f64],
-    log: &[u64],
-    out: &mut [u8],
-) -> Sums
-    requires { Savable options x0.now lower.now upper.now
-        × (8 * (setup_size options.bounded (length x0.now) + length log.now) ≤ length out.old) }
-    ensures { Summed (saved_words options x0.now lower.now upper.now log.now) out.old result
-        out.new }
+// Kept: a fold over the words has no proof, since its closure would change the output, whose length each write needs.
+fn put_words(setup: Setup, log: &[u64], out: &mut [u8]) -> Sums
+    requires { Savable setup.options setup.x0.now setup.lower.now setup.upper.now
+        × (8 * (setup_size setup.options.bounded (length setup.x0.now) + length log.now) ≤ length out.old) }
+    ensures { Summed (saved_words (setup_of setup.entry) log.now) out.old result out.new }
 {
-    let count = setup_words(options, x0.len()) + log.len();
+    let count = setup_words(setup.options, setup.x0.len()) + log.len();
     let mut sums = Sums {
         plain: 0,
         running: 0,
     };
-    let mut i = 0;
-    while i < count {
-        let word = saved_word(options, x0, lower, upper, log, i);
+    for i in 0..count {
+        let word = saved_word(setup, log, i);
         put_word(out, 8 * i, word);
         sums = added(sums, word);
-        i += 1;
     }
     sums
 }
@@ -606,20 +460,12 @@ fn put_trailer(out: &mut [u8], sums: Sums, count: usize)
 }
 
 // The record of a setup and a log, from the first byte of `out` on; what is behind it stays.
-pub fn write(
-    options: Options,
-    x0: &[f64],
-    lower: &[f64],
-    upper: &[f64],
-    log: &[u64],
-    out: &mut [u8],
-)
-    requires { Savable options x0.now lower.now upper.now
-        × (8 * (setup_size options.bounded (length x0.now) + length log.now + 4) ≤ length out.old) }
-    ensures { out.new
-        ≡ overwritten (bytes (saved_record options x0.now lower.now upper.now log.now)) out.old }
+pub fn write(setup: Setup, log: &[u64], out: &mut [u8])
+    requires { Savable setup.options setup.x0.now setup.lower.now setup.upper.now
+        × (8 * (setup_size setup.options.bounded (length setup.x0.now) + length log.now + 4) ≤ length out.old) }
+    ensures { out.new ≡ overwritten (bytes (saved_record (setup_of setup.entry) log.now)) out.old }
 {
-    let sums = put_words(options, x0, lower, upper, log, out);
-    let count = setup_words(options, x0.len()) + log.len();
+    let sums = put_words(setup, log, out);
+    let count = setup_words(setup.options, setup.x0.len()) + log.len();
     put_trailer(out, sums, count);
 }

@@ -1,10 +1,11 @@
 -- Laws of one entry: the reply of its kind, its words, and what the definition makes of it. Assumes nothing.
 use mathlib.Core.Path.{◌≡◌, refl, sym, ap, ◌∙◌}
-use mathlib.Core.Bool.{true, false}
-use mathlib.Core.List.{List, [], ◌∷◌, ◌++◌}
-use mathlib.Core.Option.{Option, none, some}
+use mathlib.Core.Bool.{Bool, true, false, cond}
+use mathlib.Core.List.{List, ◌∷◌, ◌++◌}
+use Rattle.std.specs.Prelude.{Option, None, Some}
 use Prim.Native.Nat.{ℕ, zero, suc, ◌+◌, ◌-◌, ◌≤◌, ◌<◌}
 use native.Mathlib.Omega.{arith}
+use Rattle.std.proofs.lemmas.Bool.{eqb-false}
 use borrow.Author.Tests.{eq-eqb, ne_eqb, lt-ltb, le-ltb, lt-leb}
 use lib.Dec.{eqb}
 use lib.ListN.{length, get_or, take, drop, length-drop, take-append-drop}
@@ -16,8 +17,9 @@ use Rattle.definition.specs.Log.{Entries, entry_of, entry_words, log_words, admi
 use Rattle.definition.proofs.Entries.{words_some}
 use Rattle.driver.specs.declared.Reply.{Reply}
 use Rattle.driver.specs.declared.Reply.TheVariants as R
+use Rattle.definition.specs.Record.{count_given}
 use Rattle.record.specs.Records.{entry_size}
-use Rattle.replay.specs.Taken.{replied, size_of, kind_reply, gradient_at, Reads}
+use Rattle.replay.specs.Taken.{replied, size_of, reply_at, gradient_at, Reads}
 
 -- ---- the kinds
 
@@ -28,7 +30,7 @@ data Kind : ℕ → Type 0 where
   go_on : Kind 4
   stop : Kind 5
   failure : Kind 6
-  other : (k : ℕ) → ((n : ℕ) → entry_size k n ≡ 0) → ((n : ℕ) (ws : List ℕ) → entry_of n k ws ≡ none) → Kind k
+  other : (k : ℕ) → ((n : ℕ) → entry_size k n ≡ 0) → ((n : ℕ) (ws : List ℕ) → entry_of n k ws ≡ None) → Kind k
 
 kind : (k : ℕ) → Kind k
 kind zero = Kind.other zero (λ n. refl) (λ n ws. refl)
@@ -45,39 +47,22 @@ kind (suc (suc (suc (suc (suc (suc (suc j))))))) =
     (λ n. simp (no 1 (omega arith), no 2 (omega arith), no 0 (omega arith), lt-leb k 6 (omega arith)))
     (λ n ws. simp (no 1 (omega arith), no 2 (omega arith), no 3 (omega arith), no 4 (omega arith), no 5 (omega arith), no 6 (omega arith)))
 
-unknown_kind : {k : ℕ} → Kind k → (n : ℕ) (ws : List ℕ) → entry_size k n ≡ 0 → entry_of n k ws ≡ none
-unknown_kind Kind.value n ws e = absurd (omega arith)
-unknown_kind Kind.gradient n ws e = absurd (omega arith)
-unknown_kind Kind.not_supplied n ws e = absurd (omega arith)
-unknown_kind Kind.go_on n ws e = absurd (omega arith)
-unknown_kind Kind.stop n ws e = absurd (omega arith)
-unknown_kind Kind.failure n ws e = absurd (omega arith)
-unknown_kind (Kind.other k size bad) n ws e = bad n ws
-
-cut_value : (n : ℕ) (ws : List ℕ) → length ws + 1 < 2 → entry_of n 1 ws ≡ none
-cut_value n [] h = refl
-cut_value n (v ∷ ws) h = absurd (omega arith)
-
-cut_kind : {k : ℕ} → Kind k → (n : ℕ) (ws : List ℕ) → length ws + 1 < entry_size k n → entry_of n k ws ≡ none
-cut_kind Kind.value n ws h = cut_value n ws h
-cut_kind Kind.gradient n ws h = rw (lt-ltb (length ws) n (omega arith))
-cut_kind Kind.not_supplied n ws h = absurd (omega arith)
-cut_kind Kind.go_on n ws h = absurd (omega arith)
-cut_kind Kind.stop n ws h = absurd (omega arith)
-cut_kind Kind.failure n ws h = absurd (omega arith)
-cut_kind (Kind.other k size bad) n ws h = bad n ws
+-- a length is given where there is one
+pub size_given : (size l : ℕ) → Some l ≡ count_given size → (l ≡ size) × (l ≡ 0 → ⊥)
+size_given size l = go (eqb size 0) refl
+  where
+    go : (b : Bool) → eqb size 0 ≡ b → ◌≡◌ {A = Option ℕ} (Some l) (cond b None (Some size)) → (l ≡ size) × (l ≡ 0 → ⊥)
+    go true h e = cc
+    go false h e = let same : l ≡ size = cc in (same, λ z. eqb-false size 0 h (sym same ∙ z))
 
 -- the reply r stands, of kind k with ws behind it, in l words
 record Spells (n k : ℕ) (ws : List ℕ) (r : Reply) (l : ℕ) : Type 0 where
-  is : entry_of n k ws ≡ some (replied r (take n ws))
+  is : entry_of n k ws ≡ Some (replied r (take n ws))
   size : l ≡ size_of r n
   spelled : entry_words (replied r (take n ws)) ++ drop (l - 1) ws ≡ k ∷ ws
 
-spells_value : (n v : ℕ) (ws : List ℕ) → Spells n 1 (v ∷ ws) (R.Value v) 2
-spells_value n v ws = record { is = refl; size = refl; spelled = refl }
-
 spells_kind : {k : ℕ} → Kind k → (n : ℕ) (ws : List ℕ) → (k ≡ 1 → ⊥) → (entry_size k n ≡ 0 → ⊥) → entry_size k n ≤ length ws + 1
-    → Spells n k ws (kind_reply k) (entry_size k n)
+    → Spells n k ws (reply_at k 0) (entry_size k n)
 spells_kind Kind.value n ws one z l = absurd (one refl)
 spells_kind Kind.gradient n ws one z l =
     let same : n + 1 - 1 ≡ n = omega arith in
@@ -104,12 +89,6 @@ module _ (n : ℕ) (ws : List ℕ) (at k l : ℕ) (here : at < length ws) (e : k
   left : length rest + 1 ≡ length ws - at
   left = omega (arith, length-drop (at + 1) ws)
 
-  pub unknown_at : l ≡ 0 → entry_of n (get_or ws at 0) rest ≡ none
-  unknown_at z = ap (λ (i : ℕ). entry_of n i rest) (sym e) ∙ unknown_kind (kind k) n rest (sym size ∙ z)
-
-  pub cut_at : length ws - at < l → entry_of n (get_or ws at 0) rest ≡ none
-  cut_at h = ap (λ (i : ℕ). entry_of n i rest) (sym e) ∙ cut_kind (kind k) n rest (omega (arith, left))
-
   reads : (r : Reply) → 1 ≤ l → l ≤ length ws - at → Spells n k rest r l → Reads n ws at r l
   reads r any fits h =
       let on : at + 1 + (l - 1) ≡ at + l = omega arith in
@@ -124,16 +103,7 @@ module _ (n : ℕ) (ws : List ℕ) (at k l : ℕ) (here : at < length ws) (e : k
             ∙ sym (at_word ws at here);
       }
 
-  pub value_count : k ≡ 1 → l ≡ 2
-  value_count one = size ∙ ap (λ (i : ℕ). entry_size i n) one
-
-  pub value_at_lem : (v : ℕ) → l ≤ length ws - at → k ≡ 1 → v ≡ get_or ws (at + 1) 0 → Reads n ws at (R.Value v) l
-  value_at_lem v fits one g =
-      let two = value_count one in
-      let more : rest ≡ v ∷ drop (at + 1 + 1) ws = at_word ws (at + 1) (omega arith) ∙ ap (λ (i : ℕ). i ∷ drop (at + 1 + 1) ws) (sym g) in
-      reads (R.Value v) (omega arith) fits (rw (one, two, more) (spells_value n v (drop (at + 1 + 1) ws)))
-
-  pub reply_at_lem : (r : Reply) → (l ≡ 0 → ⊥) → l ≤ length ws - at → (k ≡ 1 → ⊥) → r ≡ kind_reply k → Reads n ws at r l
+  pub reply_at_lem : (r : Reply) → (l ≡ 0 → ⊥) → l ≤ length ws - at → (k ≡ 1 → ⊥) → r ≡ reply_at k 0 → Reads n ws at r l
   reply_at_lem r any fits one g =
       reads r (omega arith) fits
       (rw (g, size) (spells_kind (kind k) n rest one (λ z. any (size ∙ z)) (omega (arith, left))))
@@ -167,7 +137,7 @@ gradient_fits r n at k e h = let size : size_of r n ≡ n + 1 = ap (λ (q : Repl
 -- ---- whether it is due
 
 pub due_checked : {ws : List ℕ} {at l : ℕ} (m : M.Machine) (r : Reply) → Reads m.terms.n ws at r l
-    → takes m (replied r (gradient_at m.terms.n ws at)) ≡ true → check_due m (replied r (gradient_at m.terms.n ws at)) ≡ none
+    → takes m (replied r (gradient_at m.terms.n ws at)) ≡ true → check_due m (replied r (gradient_at m.terms.n ws at)) ≡ None
 due_checked m (R.Value v) h d = simp d
 due_checked {ws} {at} {l} m R.Gradient h d =
     let n = m.terms.n in
@@ -187,14 +157,14 @@ module _ (room : ℕ) (ws : List ℕ) (rs : List M.Reply) (m : M.Machine) (at : 
   next_is : at < length ws → next_entry room (drop at ws) rs m ≡ admit room (drop (at + 1) ws) rs m entry
   next_is h = ap (λ (l : List ℕ). next_entry room l rs m) (at_word ws at h)
 
-  pub next_bad : at < length ws → entry ≡ none → next_entry room (drop at ws) rs m ≡ Entries.refused_at 17
+  pub next_bad : at < length ws → entry ≡ None → next_entry room (drop at ws) rs m ≡ Entries.refused_at 17
   next_bad h e = next_is h ∙ ap (admit room (drop (at + 1) ws) rs m) e
 
   module _ (r : Reply) (l : ℕ) (h : Reads m.terms.n ws at r l) (here : at < length ws) where
     abbrev reply : M.Reply
     reply = replied r (gradient_at m.terms.n ws at)
 
-    next_read : next_entry room (drop at ws) rs m ≡ admit room (drop (at + 1) ws) rs m (some reply)
+    next_read : next_entry room (drop at ws) rs m ≡ admit room (drop (at + 1) ws) rs m (Some reply)
     next_read = next_is here ∙ ap (admit room (drop (at + 1) ws) rs m) h.is
 
     pub next_undue : takes m reply ≡ false → next_entry room (drop at ws) rs m ≡ Entries.refused_at 17

@@ -1,20 +1,22 @@
 -- Laws of a replay: whether an entry is admitted, what taking it leaves, and what holds after each. Assumes nothing.
-use mathlib.Core.Path.{◌≡◌, refl, sym, ap, ap₂, ◌∙◌, subst}
+use mathlib.Core.Path.{◌≡◌, refl, sym, ap, ap₂, ◌∙◌}
 use mathlib.Core.Bool.{Bool, true, false, ◌&&◌, true≢false}
 use mathlib.Core.Logic.{◌⊎◌, inl, inr}
 use mathlib.Core.List.{List, [], ◌∷◌, ◌++◌, append_assoc}
-use mathlib.Core.Option.{none, some-ne-none}
+use Rattle.std.specs.Prelude.{Result, Ok, Err}
+use Rattle.std.specs.Result.{is_ok}
+use Rattle.std.proofs.lemmas.Option.{none-some}
 use Prim.Native.Nat.{ℕ, suc, ◌+◌, ◌≤◌, ◌<◌}
 use native.Mathlib.Omega.{arith}
-use borrow.Author.Tests.{ltb-true, ltb-false, lt-ltb, le-ltb}
-use lib.Dec.{ltb}
-use lib.ListN.{length, get_or, drop, replicate, length-replicate}
+use borrow.Author.Tests.{leb-true, leb-false}
+use lib.Dec.{leb}
+use lib.ListN.{length, drop, replicate, length-replicate}
 use lib.Ieee.{Float}
 use Rattle.definition.specs.Problem as P
 use Rattle.definition.specs.Machine as M
 use Rattle.definition.specs.Driver as D
 use Rattle.definition.specs.Driver.{run}
-use Rattle.definition.specs.Log.{Entries, entry_of, entry_words, log_words}
+use Rattle.definition.specs.Log.{Entries, entry_words, log_words}
 use Rattle.definition.specs.Replies.{Due}
 use Rattle.definition.proofs.Accepted.{due_taken}
 use Rattle.definition.proofs.Entries.{log_more, words_some}
@@ -22,9 +24,6 @@ use Rattle.area.specs.Area.{view, Saved}
 use Rattle.area.proofs.Laws.{saved_refl, saved_trans}
 use Rattle.compact.specs.State.{Sound}
 use Rattle.problem.specs.Setups.{places_in, check_of}
-use Rattle.problem.specs.declared.Refusal.{Refusal}
-use Rattle.problem.specs.declared.Checked.{Checked}
-use Rattle.problem.specs.declared.Checked.TheVariants as C
 use Rattle.search.specs.State.{Settled}
 use Rattle.fit.specs.State.{machine_of, phase_of, most_words, more_kept, with_extra, Steps}
 use Rattle.fit.specs.declared.Extra.{Extra}
@@ -33,17 +32,17 @@ use Rattle.held.specs.Test.{shape_held, is_ready}
 use Rattle.driver.specs.declared.Reply.{Reply}
 use Rattle.held.proofs.Test.{ready_facts, shape_again, few_ready, log_few}
 use Rattle.driver.proofs.Steps.{suits_any, due_by_kind, DueSaid}
-use Rattle.replay.specs.declared.Replayed.{Replayed}
-use Rattle.replay.specs.declared.Replayed.TheVariants.{Done, Refused}
+use Rattle.problem.specs.declared.Refusal.{Refusal}
+use Rattle.problem.specs.declared.Refusal.TheVariants.{LogShort, Malformed}
 use Rattle.replay.specs.Replays.{one_more, after_entries, first_entries, Replayable, ReplayedTo, Replays}
-use Rattle.replay.specs.Taken.{replied, gradient_at, Reads, is_due, admission, Took, RefusedBy, NextIs, Run}
-use Rattle.replay.proofs.Entries.{reads_count, due_checked, next_bad, next_undue, next_short, next_going}
+use Rattle.replay.specs.Taken.{replied, gradient_at, Reads, is_due, admission, Took, RefusedBy, Run}
+use Rattle.replay.proofs.Entries.{reads_count, due_checked, next_undue, next_short, next_going}
 use Rattle.driver.proofs.Answers.{terms_stay}
 
 -- ---- admission
 
 -- what `check_due` says, with n words for a gradient
-module _ (t : Fit) (r : Reply) (c : Checked) (said : DueSaid t r c) where
+module _ (t : Fit) (r : Reply) (c : Result Unit Refusal) (said : DueSaid t r c) where
   abbrev any : List ℕ
   any = replicate t.shape.n 0
 
@@ -53,36 +52,26 @@ module _ (t : Fit) (r : Reply) (c : Checked) (said : DueSaid t r c) where
   kind_any : M.takes (machine_of t []) (replied r any) ≡ is_due t r
   kind_any = suits_any (M.kind_of (phase_of t.phase)) r any []
 
-  pub due_is : c ≡ C.Passed → is_due t r ≡ true
+  due_is : {u : Unit} → c ≡ Ok u → is_due t r ≡ true
   due_is e = sym kind_any ∙ due_taken (machine_of t []) (replied r any) (sym said_any ∙ ap check_of e)
 
-  pub undue_is : {q : Refusal} → c ≡ C.Refused q → is_due t r ≡ false
+  undue_is : {q : Refusal} → c ≡ Err q → is_due t r ≡ false
   undue_is e = go (is_due t r) refl
     where
       go : (b : Bool) → is_due t r ≡ b → b ≡ false
       go true h =
           let passed = said_any ∙ due_by_kind (machine_of t []) r any (length-replicate t.shape.n 0) (kind_any ∙ h) in
-          absurd (some-ne-none _ (sym (ap check_of e) ∙ passed))
+          absurd (none-some _ (sym passed ∙ ap check_of e))
       go false h = refl
 
-module _ (ready due : Bool) (room words l : ℕ) where
-  pub not_ready : ready ≡ false → 17 ≡ admission (ready && due) (ltb room (words + l))
-  not_ready h = simp h
+  pub due_ok : is_ok c ≡ is_due t r
+  due_ok = elim c as (λ d. c ≡ d → is_ok d ≡ is_due t r) [ Ok u ↦ λ e. sym (due_is e) | Err q ↦ λ e. sym (undue_is e) ] refl
 
-  pub not_due : ready ≡ true → due ≡ false → 17 ≡ admission (ready && due) (ltb room (words + l))
-  not_due h d = simp (h, d)
-
-  pub no_room : ready ≡ true → due ≡ true → room < words + l → 12 ≡ admission (ready && due) (ltb room (words + l))
-  no_room h d s = simp (h, d, lt-ltb room (words + l) s)
-
-  pub room_left : ready ≡ true → due ≡ true → words + l ≤ room → 0 ≡ admission (ready && due) (ltb room (words + l))
-  room_left h d s = simp (h, d, le-ltb room (words + l) s)
-
-admitted_as : (ready due short : Bool) (c : ℕ) → c ≡ admission (ready && due) short → c ≡ 0 → (ready ≡ true) × (due ≡ true) × (short ≡ false)
-admitted_as true true false c e z = (refl, refl, refl)
-admitted_as true true true c e z = absurd (omega arith)
-admitted_as true false short c e z = absurd (omega arith)
-admitted_as false due short c e z = absurd (omega arith)
+admitted_as : (ready due fits : Bool) {u : Unit} → Ok u ≡ admission (ready && due) fits → (ready ≡ true) × (due ≡ true) × (fits ≡ true)
+admitted_as true true true e = (refl, refl, refl)
+admitted_as true true false e = cc
+admitted_as true false fits e = cc
+admitted_as false due fits e = cc
 
 -- an entry that is admitted: the fit passes the test, the reply is due, and there is room
 pub record Admitted (t : Fit) (size : ℕ) (r : Reply) (l room : ℕ) : Type 0 where
@@ -91,10 +80,6 @@ pub record Admitted (t : Fit) (size : ℕ) (r : Reply) (l room : ℕ) : Type 0 w
   pub fits : t.extra.words + l ≤ room
 
 module _ (t : Fit) (a : List Float) (ws : List ℕ) (room : ℕ) (here : t.extra.words < length ws) where
-  -- an entry that is none
-  pub bad_refused : entry_of t.shape.n (get_or ws t.extra.words 0) (drop (t.extra.words + 1) ws) ≡ none → RefusedBy t a ws room 17
-  bad_refused e = record { code = inl refl; next = λ ready rs w. next_bad room ws rs (machine_of t a) t.extra.words here e }
-
   module _ (r : Reply) (l : ℕ) (h : Reads t.shape.n ws t.extra.words r l) where
     abbrev reply : M.Reply
     reply = replied r (gradient_at t.shape.n ws t.extra.words)
@@ -102,27 +87,32 @@ module _ (t : Fit) (a : List Float) (ws : List ℕ) (room : ℕ) (here : t.extra
     takes_due : M.takes (machine_of t a) reply ≡ is_due t r
     takes_due = suits_any (M.kind_of (phase_of t.phase)) r (gradient_at t.shape.n ws t.extra.words) []
 
-    pub admitted_is : (c : ℕ) → c ≡ admission (is_ready t (length a) && is_due t r) (ltb room (t.extra.words + l)) → c ≡ 0 → Admitted t (length a) r l room
-    admitted_is c e z =
-        let k = admitted_as (is_ready t (length a)) (is_due t r) (ltb room (t.extra.words + l)) c e z in
-        record { ready = k.0; due = k.1; fits = ltb-false room (t.extra.words + l) k.2 }
+    pub admitted_is : {u : Unit} → Ok u ≡ admission (is_ready t (length a) && is_due t r) (leb (t.extra.words + l) room) → Admitted t (length a) r l room
+    admitted_is e =
+        let k = admitted_as (is_ready t (length a)) (is_due t r) (leb (t.extra.words + l) room) e in
+        record { ready = k.0; due = k.1; fits = leb-true (t.extra.words + l) room k.2 }
 
     -- an entry that is not due, or has no room
-    pub refused_is : (c : ℕ) → c ≡ admission (is_ready t (length a) && is_due t r) (ltb room (t.extra.words + l)) → (c ≡ 0 → ⊥) → RefusedBy t a ws room c
-    refused_is c e z = go (is_ready t (length a)) (is_due t r) (ltb room (t.extra.words + l)) refl refl refl e
+    pub refused_is : (c : Refusal) → Err c ≡ admission (is_ready t (length a) && is_due t r) (leb (t.extra.words + l) room) → RefusedBy t a ws room c
+    refused_is c = go (is_ready t (length a)) (is_due t r) (leb (t.extra.words + l) room) refl refl refl
       where
-        go : (ready due short : Bool) → is_ready t (length a) ≡ ready → is_due t r ≡ due → ltb room (t.extra.words + l) ≡ short
-            → c ≡ admission (ready && due) short → RefusedBy t a ws room c
-        go true true false f g k e = absurd (z e)
-        go true true true f g k e =
-            rw e
+        go : (ready due fits : Bool) → is_ready t (length a) ≡ ready → is_due t r ≡ due → leb (t.extra.words + l) room ≡ fits
+            → Err c ≡ admission (ready && due) fits → RefusedBy t a ws room c
+        go true true true f g k e = cc
+        go true true false f g k e =
+            let short = leb-false (t.extra.words + l) room k in
+            let which : c ≡ LogShort = cc in
+            rw which
             (record {
-              code = inr (refl, omega (arith, ltb-true room (t.extra.words + l) k, h.within));
-              next = λ ready rs w. next_short room ws rs (machine_of t a) t.extra.words r l h here (takes_due ∙ g) w (ltb-true room (t.extra.words + l) k);
+              code = inr (refl, omega (arith, short, h.within));
+              next = λ ready rs w. next_short room ws rs (machine_of t a) t.extra.words r l h here (takes_due ∙ g) w short;
             })
-        go true false short f g k e =
-            rw e (record { code = inl refl; next = λ ready rs w. next_undue room ws rs (machine_of t a) t.extra.words r l h here (takes_due ∙ g) })
-        go false due short f g k e = rw e (record { code = inl refl; next = λ ready rs w. absurd (true≢false (sym ready ∙ f)) })
+        go true false fits f g k e =
+            let which : c ≡ Malformed = cc in
+            rw which (record { code = inl refl; next = λ ready rs w. next_undue room ws rs (machine_of t a) t.extra.words r l h here (takes_due ∙ g) })
+        go false due fits f g k e =
+            let which : c ≡ Malformed = cc in
+            rw which (record { code = inl refl; next = λ ready rs w. absurd (true≢false (sym ready ∙ f)) })
 
     -- an entry that is taken, and counted
     pub took_by : {f g : Fit} {b : List Float} → Sound t.shape (length a) → shape_held t.shape (length a) ≡ true
@@ -163,11 +153,6 @@ module _ (t : Fit) (a : List Float) (ws : List ℕ) (room : ℕ) (here : t.extra
         let ready = ready_facts t (length a) k.ready in
         took_by ready.ready.sound ready.shape ready.within k.due k.fits size s e
 
--- what `replay_entry` answers, by its variant
-pub next_took : (t : Fit) (a : List Float) (ws : List ℕ) (room : ℕ) (r : Replayed) (f : Fit) (b : List Float) → r ≡ Done f → NextIs t a ws room r b
-    → Took t a ws room f b
-next_took t a ws room r f b e h = subst (λ (q : Replayed). NextIs t a ws room q b) e h
-
 pub took_more : {t f : Fit} {a b : List Float} {ws : List ℕ} {room : ℕ} → Took t a ws room f b → t.extra.words < f.extra.words
 took_more h = omega (arith, h.words, words_some h.reply)
 
@@ -194,7 +179,7 @@ pub reached_first : (t : Fit) (a : List Float) (ws : List ℕ) (limit room : ℕ
 unfolding after_entries log_words run
 reached_first t a ws limit room h e w =
     let ready = ready_facts t (length a) h in
-    let none : drop t.extra.words ws ≡ ws = ap (λ (i : ℕ). drop i ws) w in
+    let None : drop t.extra.words ws ≡ ws = ap (λ (i : ℕ). drop i ws) w in
     record {
       size = refl;
       small = ready.ready.n;
@@ -212,10 +197,10 @@ reached_first t a ws limit room h e w =
         replies = [];
         after =
             ap (λ (i : ℕ). after_entries i room (first_entries s ws)) e
-            ∙ ap₂ (λ (l : List ℕ) (m : M.Machine). Entries.going l [] m) (sym none) (sym k);
+            ∙ ap₂ (λ (l : List ℕ) (m : M.Machine). Entries.going l [] m) (sym None) (sym k);
         due = tt;
         is = k;
-        spelled = none;
+        spelled = None;
         entries = e;
         words = w;
         ready = h;
@@ -284,7 +269,7 @@ reached_run h (Run.taken f b g d r l size k) = reached_more (reached_run h r) l 
 
 pub reached_done : {t f : Fit} {a b : List Float} {ws : List ℕ} {limit room : ℕ} → Reached t a ws limit room f b
     → (f.extra.words ≡ length ws) ⊎ (f.extra.entries ≡ limit)
-    → Replays t a ws limit room (Done f) b
+    → Replays t a ws limit room (Ok f) b
 reached_done h stopped = record {
   size = h.size;
   kept = record {
@@ -303,18 +288,15 @@ reached_done h stopped = record {
   is = h.is;
 }
 
-pub reached_refused : {t f : Fit} {a b d : List Float} {ws : List ℕ} {limit room c : ℕ} (r : Replayed) → r ≡ Refused c
-    → Reached t a ws limit room f b → f.extra.entries < limit → length d ≡ length b → NextIs f b ws room r d → Replays t a ws limit room r d
+pub reached_refused : {t f : Fit} {a b d : List Float} {ws : List ℕ} {limit room : ℕ} (c : Refusal)
+    → Reached t a ws limit room f b → f.extra.entries < limit → length d ≡ length b → RefusedBy f b ws room c → Replays t a ws limit room (Err c) d
 unfolding after_entries
-reached_refused {t} {f} {a} {b} {d} {ws} {limit} {room} r q h l size next =
-    let k = subst (λ (r : Replayed). NextIs f b ws room r d) q next in
-    rw q
-    (record {
-      size = size ∙ h.size;
-      kept = k.code;
-      is = λ s c e. let g = h.is s c e in record {
-        number = suc f.extra.entries;
-        most = l;
-        is = ap (one_more room) g.after ∙ k.next g.ready g.replies g.words;
-      };
-    })
+reached_refused {t} {f} {a} {b} {d} {ws} {limit} {room} c h l size k = record {
+  size = size ∙ h.size;
+  kept = k.code;
+  is = λ s c e. let g = h.is s c e in record {
+    number = suc f.extra.entries;
+    most = l;
+    is = ap (one_more room) g.after ∙ k.next g.ready g.replies g.words;
+  };
+}

@@ -23,25 +23,11 @@ use Rattle.differences.specs.declared.Next.{Next}
 use Rattle.differences.specs.declared.Next.TheVariants.{Probe, Complete, Ended}
 use Rattle.differences.specs.Probing.{numbered, probing, Settles, reached, LeadsTo}
 use Rattle.held.specs.Test.{shape_held}
-use Rattle.driver.specs.declared.Reply.{Reply}
 use Rattle.driver.specs.declared.Reply.TheVariants as R
-use Rattle.replay.specs.declared.Entry.{Entry}
-use Rattle.replay.specs.declared.Entry.TheVariants.{Is}
-use Rattle.replay.specs.declared.Said.{Said}
-use Rattle.replay.specs.declared.Said.TheVariants as S
-use Rattle.replay.specs.Taken.{Reads, EntryIs, Run, Took, logged, Offered, SaidIs}
+use Rattle.replay.specs.Taken.{Run, Took, logged, Offered}
 use Rattle.replay.proofs.Laws.{took_by, took_more}
 
 -- ---- one entry
-
--- the value that stands at a word
-pub value_reads : (n : ℕ) (ws : List ℕ) (at : ℕ) (e : Entry) (r : Reply) (l v : ℕ) → e ≡ Is r l → r ≡ R.Value v → EntryIs n ws at e
-    → Reads n ws at (R.Value v) l
-value_reads n ws at e r l v h k reads = subst (λ (z : Reply). Reads n ws at z l) k (subst (EntryIs n ws at) h reads)
-
-pub said_value : {n : ℕ} {ws : List ℕ} {q : Probing} {limit room v l : ℕ} (r : Said) → r ≡ S.Value v l → SaidIs n ws q limit room r
-    → Offered n ws q limit room v l
-said_value {n} {ws} {q} {limit} {room} r e h = subst (λ (z : Said). SaidIs n ws q limit room z) e h
 
 -- a value at the probe q of t, of a fit that can be advanced
 pub record Given (t : Fit) (q : Probing) (a : List Float) (ws : List ℕ) (limit room v l : ℕ) : Type 0 where
@@ -123,10 +109,15 @@ run_first {ws} {limit} {room} {t} {w} {a} {q} h e = record {
 }
 
 pub run_given : {ws : List ℕ} {limit room : ℕ} {t : Fit} {w : Place} {a b : List Float} {q : Probing} {v l : ℕ} → RunTo ws limit room t w a q b
-    → (k : ℕ) → q.extra.words < k → length ws ≡ k → Ready t (length a) → shape_held t.shape (length a) ≡ true → Offered t.shape.n ws q limit room v l
-    → Given t q b ws limit room v l
-run_given h k here count ready held said =
-    record { here = rw count here; within = h.within; ready = rw h.size ready; held = rw h.size held; said = said }
+    → Ready t (length a) → shape_held t.shape (length a) ≡ true → Offered t.shape.n ws q limit room v l → Given t q b ws limit room v l
+run_given h ready held said =
+    record {
+      here = omega (arith, said.reads.size, said.reads.within);
+      within = h.within;
+      ready = rw h.size ready;
+      held = rw h.size held;
+      said = said;
+    }
 
 -- the counts that a step raises are as they were
 pub run_ready : {ws : List ℕ} {limit room : ℕ} {t : Fit} {w : Place} {a b d : List Float} {q : Probing} {F : M.Place → M.Machine → M.Machine} {r : Next}
@@ -162,11 +153,6 @@ module _ {ws : List ℕ} {limit room : ℕ} {t : Fit} {w : Place} {a b d : List 
       → Settles w (P.Probe w q.i q.side) (probing w q t) c r f d → o ≡ with_extra (more_kept f.extra l) f → Run ws limit room t a o d
   run_last x r c f o e size k s i =
       Run.taken (probing w q t) b o d h.taken g.said.few size (taken_last t q w b ws limit room v l g x r c d f o e size k s i)
-
--- the fit put together
-pub run_built : {ws : List ℕ} {limit room : ℕ} {t : Fit} {w : Place} {a b : List Float} {q : Probing} {f : Fit}
-    → RunTo ws limit room t w a q b → f ≡ probing w q t → Run ws limit room t a f b
-run_built {ws} {limit} {room} {t} {w} {a} {b} h e = subst (λ (g : Fit). Run ws limit room t a g b) (sym e) h.taken
 
 -- no entry is struck
 pub run_least : {ws : List ℕ} {limit room : ℕ} {t : Fit} {a : List Float} {f : Fit} {b : List Float} → Run ws limit room t a f b → t.extra.words ≤ f.extra.words

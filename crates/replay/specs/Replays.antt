@@ -1,5 +1,5 @@
 -- Where entries stand, and what a replay of them leaves.
-use Rattle.std.specs.Prelude.{ℕ, ◌+◌, ◌*◌, ◌≤◌, ◌<◌, ◌≡◌, true, false, cond, ◌⊎◌, List, ◌++◌, length, take, drop, Float}
+use Rattle.std.specs.Prelude.{Result, Ok, Err, ℕ, ◌/◌, ◌≤◌, ◌<◌, ◌≡◌, true, ◌⊎◌, List, ◌++◌, length, drop, Float}
 use Rattle.definition.specs.Problem as P
 use Rattle.definition.specs.Machine as M
 use Rattle.definition.specs.Driver as D
@@ -13,20 +13,18 @@ use Rattle.fit.specs.declared.Fit.{Fit}
 use Rattle.fit.specs.State.{most_words}
 use Rattle.held.specs.Test.{shape_held, is_ready}
 use Rattle.replay.specs.declared.Source.{Source}
-use Rattle.replay.specs.declared.Replayed.{Replayed}
-use Rattle.replay.specs.declared.Replayed.TheVariants.{Done, Refused}
+use Rattle.replay.specs.declared.Source.TheVariants.{Log, Record}
+use Rattle.problem.specs.Setups.{refusal_of}
+use Rattle.problem.specs.declared.Refusal.{Refusal}
+use Rattle.problem.specs.declared.Refusal.TheVariants.{LogShort, Malformed}
 pub use Rattle.definition.specs.Log.{one_more, first_entries}
 unfoldable pub use Rattle.definition.specs.Log.{after_entries}
 
 -- ---- words
 
-abbrev pub source_words : Source → List ℕ → List ℕ → List ℕ
-source_words s log bs = cond s.recorded (words_of s.words (drop s.at bs)) (take s.words log)
-
--- the words lie within the log, or within the record
-pub record Within (s : Source) (log bs : List ℕ) : Type 0 where
-  pub logged : s.recorded ≡ false → s.words ≤ length log
-  pub recorded : s.recorded ≡ true → s.at + 8 * s.words ≤ length bs
+abbrev pub source_words : Source → List ℕ
+source_words (Log log) = log.now
+source_words (Record bs) = words_of (length bs.now / 8) bs.now
 
 -- ---- a replay
 
@@ -51,9 +49,9 @@ pub record RefusedAt (s : P.Setup) (ws : List ℕ) (limit room c : ℕ) : Type 0
   pub most : number ≤ limit
   pub is : after_entries number room (first_entries s ws) ≡ Entries.refused_at c
 
-abbrev pub Ends : P.Setup → List ℕ → ℕ → ℕ → Replayed → List Float → Type 0
-Ends s ws limit room (Done f) b = ReplayedTo s ws room f b
-Ends s ws limit room (Refused c) b = RefusedAt s ws limit room c
+abbrev pub Ends : P.Setup → List ℕ → ℕ → ℕ → Result Fit Refusal → List Float → Type 0
+Ends s ws limit room (Ok f) b = ReplayedTo s ws room f b
+Ends s ws limit room (Err c) b = RefusedAt s ws limit room (refusal_of c).number
 
 -- what is not the machine's is kept, and the numbers stay in range
 pub record Keeps (t : Fit) (a : List Float) (ws : List ℕ) (limit room : ℕ) (f : Fit) (b : List Float) : Type 0 where
@@ -70,11 +68,11 @@ pub record Keeps (t : Fit) (a : List Float) (ws : List ℕ) (limit room : ℕ) (
   -- it stopped at the last word, or at the number of entries asked for
   pub stopped : (f.extra.words ≡ length ws) ⊎ (f.extra.entries ≡ limit)
 
-abbrev pub Kept : Fit → List Float → List ℕ → ℕ → ℕ → Replayed → List Float → Type 0
-Kept t a ws limit room (Done f) b = Keeps t a ws limit room f b
-Kept t a ws limit room (Refused c) b = (c ≡ 17) ⊎ ((c ≡ 12) × (room < length ws))
+abbrev pub Kept : Fit → List Float → List ℕ → ℕ → ℕ → Result Fit Refusal → List Float → Type 0
+Kept t a ws limit room (Ok f) b = Keeps t a ws limit room f b
+Kept t a ws limit room (Err c) b = (c ≡ Malformed) ⊎ ((c ≡ LogShort) × (room < length ws))
 
-pub record Replays (t : Fit) (a : List Float) (ws : List ℕ) (limit room : ℕ) (r : Replayed) (b : List Float) : Type 0 where
+pub record Replays (t : Fit) (a : List Float) (ws : List ℕ) (limit room : ℕ) (r : Result Fit Refusal) (b : List Float) : Type 0 where
   pub size : length b ≡ length a
   pub kept : Kept t a ws limit room r b
   -- the definition's reading, entry by entry

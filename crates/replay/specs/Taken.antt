@@ -1,6 +1,6 @@
 -- One entry: the reply that stands at a word, whether it is admitted, and what taking it leaves.
-use Rattle.std.specs.Prelude.{ℕ, ◌+◌, ◌≤◌, ◌<◌, ◌≡◌, Bool, true, cond, ◌⊎◌, List, ◌∷◌, ◌++◌, eqb, length, get_or, take, drop, Float}
-use Rattle.std.proofs.Math.Option.{none, some}
+use Rattle.std.specs.Prelude.{ℕ, ◌+◌, ◌≤◌, ◌<◌, ◌≡◌, Bool, true, cond, ◌⊎◌, List, ◌∷◌, ◌++◌, length, get_or, take, drop, Float}
+use Rattle.std.specs.Prelude.{Option, None, Some, Result, Ok, Err}
 use Rattle.definition.specs.Machine as M
 use Rattle.definition.specs.Machine.{check_due}
 use Rattle.definition.specs.Driver as D
@@ -12,15 +12,13 @@ use Rattle.fit.specs.State.{machine_of, more_kept}
 use Rattle.fit.specs.declared.Fit.{Fit}
 use Rattle.differences.specs.declared.Probing.{Probing}
 use Rattle.held.specs.Test.{shape_held, is_ready}
-pub use Rattle.driver.specs.Replies.{replied, is_due}
+pub use Rattle.driver.specs.Replies.{replied, reply_at, is_due}
 use Rattle.driver.specs.declared.Reply.{Reply}
 use Rattle.driver.specs.declared.Reply.TheVariants as R
 use Rattle.replay.specs.declared.Entry.{Entry}
-use Rattle.replay.specs.declared.Entry.TheVariants.{Bad, Is}
-use Rattle.replay.specs.declared.Said.{Said}
-use Rattle.replay.specs.declared.Said.TheVariants.{Other, Value}
-use Rattle.replay.specs.declared.Replayed.{Replayed}
-use Rattle.replay.specs.declared.Replayed.TheVariants.{Done, Refused}
+use Rattle.problem.specs.Setups.{refusal_of}
+use Rattle.problem.specs.declared.Refusal.{Refusal}
+use Rattle.problem.specs.declared.Refusal.TheVariants.{LogShort, Malformed}
 
 -- ---- reading an entry
 
@@ -33,41 +31,33 @@ size_of R.GoOn n = 1
 size_of R.Stop n = 1
 size_of R.Failure n = 1
 
--- the reply of a kind from 2 to 6
-abbrev pub kind_reply : ℕ → Reply
-kind_reply k =
-    cond (eqb k 2) R.Gradient
-    (cond (eqb k 3) R.NotSupplied
-    (cond (eqb k 4) R.GoOn
-    (cond (eqb k 5) R.Stop R.Failure)))
-
 -- the n words behind the kind of the entry at a word
 abbrev pub gradient_at : ℕ → List ℕ → ℕ → List ℕ
 gradient_at n ws at = take n (drop (at + 1) ws)
 
 -- the entry at a word is the reply r, in l words
 pub record Reads (n : ℕ) (ws : List ℕ) (at : ℕ) (r : Reply) (l : ℕ) : Type 0 where
-  pub is : entry_of n (get_or ws at 0) (drop (at + 1) ws) ≡ some (replied r (gradient_at n ws at))
+  pub is : entry_of n (get_or ws at 0) (drop (at + 1) ws) ≡ Some (replied r (gradient_at n ws at))
   pub size : l ≡ size_of r n
   pub within : at + l ≤ length ws
   pub spelled : entry_words (replied r (gradient_at n ws at)) ++ drop (at + l) ws ≡ drop at ws
 
-abbrev pub EntryIs : ℕ → List ℕ → ℕ → Entry → Type 0
-EntryIs n ws at Bad = entry_of n (get_or ws at 0) (drop (at + 1) ws) ≡ none
-EntryIs n ws at (Is r l) = Reads n ws at r l
+abbrev pub EntryIs : ℕ → List ℕ → ℕ → Option Entry → Type 0
+EntryIs n ws at None = entry_of n (get_or ws at 0) (drop (at + 1) ws) ≡ None
+EntryIs n ws at (Some e) = Reads n ws at e.reply e.length
 
 -- ---- admitting it
 
--- 0, or the refusal: not due, then no room
-abbrev pub admission : Bool → Bool → ℕ
-admission due short = cond due (cond short 12 0) 17
+-- refused where it is not due, then where it has no room
+abbrev pub admission : Bool → Bool → Result Unit Refusal
+admission due fits = cond due (cond fits (Ok tt) (Err LogShort)) (Err Malformed)
 
 -- ---- taking it
 
 -- f with the area b is t with the area a taken through one more entry
 pub record Took (t : Fit) (a : List Float) (ws : List ℕ) (room : ℕ) (f : Fit) (b : List Float) : Type 0 where
   pub reply : M.Reply
-  pub due : check_due (machine_of t a) reply ≡ none
+  pub due : check_due (machine_of t a) reply ≡ None
   pub is : machine_of f b ≡ D.answer (machine_of t a) reply
   pub spelled : entry_words reply ++ drop f.extra.words ws ≡ drop t.extra.words ws
   pub next : (rs : List M.Reply) → t.extra.words ≡ length (log_words rs)
@@ -86,14 +76,14 @@ pub record Took (t : Fit) (a : List Float) (ws : List ℕ) (room : ℕ) (f : Fit
   pub terms : (machine_of f b).terms ≡ (machine_of t a).terms
 
 -- the definition refuses the entry too, where the fit passes the test
-pub record RefusedBy (t : Fit) (a : List Float) (ws : List ℕ) (room c : ℕ) : Type 0 where
-  pub code : (c ≡ 17) ⊎ ((c ≡ 12) × (room < length ws))
+pub record RefusedBy (t : Fit) (a : List Float) (ws : List ℕ) (room : ℕ) (c : Refusal) : Type 0 where
+  pub code : (c ≡ Malformed) ⊎ ((c ≡ LogShort) × (room < length ws))
   pub next : is_ready t (length a) ≡ true → (rs : List M.Reply) → t.extra.words ≡ length (log_words rs)
-      → next_entry room (drop t.extra.words ws) rs (machine_of t a) ≡ Entries.refused_at c
+      → next_entry room (drop t.extra.words ws) rs (machine_of t a) ≡ Entries.refused_at (refusal_of c).number
 
-abbrev pub NextIs : Fit → List Float → List ℕ → ℕ → Replayed → List Float → Type 0
-NextIs t a ws room (Done f) b = Took t a ws room f b
-NextIs t a ws room (Refused c) b = RefusedBy t a ws room c
+abbrev pub NextIs : Fit → List Float → List ℕ → ℕ → Result Fit Refusal → List Float → Type 0
+NextIs t a ws room (Ok f) b = Took t a ws room f b
+NextIs t a ws room (Err c) b = RefusedBy t a ws room c
 
 -- ---- a run of entries
 
@@ -116,6 +106,6 @@ pub record Offered (n : ℕ) (ws : List ℕ) (q : Probing) (limit room v l : ℕ
   pub few : q.extra.entries < limit
   pub fits : q.extra.words + l ≤ room
 
-abbrev pub SaidIs : ℕ → List ℕ → Probing → ℕ → ℕ → Said → Type 0
-SaidIs n ws q limit room Other = Unit {0}
-SaidIs n ws q limit room (Value v l) = Offered n ws q limit room v l
+abbrev pub ValueIs : ℕ → List ℕ → Probing → ℕ → ℕ → Option (ℕ × ℕ) → Type 0
+ValueIs n ws q limit room None = Unit {0}
+ValueIs n ws q limit room (Some e) = Offered n ws q limit room e.0 e.1

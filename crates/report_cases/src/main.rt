@@ -12,21 +12,15 @@ fn one_case<R: Print, F: Read>(rt: &R, file: &mut F) -> io::Result<bool> {
         return Ok(false);
     }
     let zeros = cases::size(&head, 0);
-    let mut input = [0u8; 65537];
-    let end = cases::after(zeros, cases::size(&head, 1));
-    if !cases::fetch_bytes(file, &mut input, zeros, end)? {
+    let end = zeros.wrapping_add(cases::size(&head, 1));
+    let mut buffer = [0u8; 65_537];
+    if !cases::fetch_bytes(file, &mut buffer, zeros, end)? {
         return Ok(false);
     }
-    print(rt, &input, end)?;
-    Ok(true)
-}
-
-// The text of the first `end` bytes.
-fn print<R: Print>(rt: &R, input: &[u8], end: usize) -> io::Result<()> {
-    if end > input.len() {
-        return Ok(());
+    if let Some(input) = buffer.get(..end) {
+        text::write_text(&mut io::writer(rt), input)?;
     }
-    text::write_text(&mut io::writer(rt), &input[0..end])
+    Ok(true)
 }
 
 // Every input of the file. Nothing says that a file ends, so the turns are counted up to the most.

@@ -1,24 +1,18 @@
 -- The definition's search, read off the record of floats and what stands beside it.
-use Rattle.std.specs.Prelude.{◌≡◌, false, cond, Float}
-use Rattle.std.proofs.Math.Option.{Option, none, some}
+use Rattle.std.specs.Prelude.{◌≡◌, false, cond}
+use Rattle.std.specs.Prelude.{None, Some}
 use Rattle.definition.specs.Number.{zero64}
 use Rattle.definition.specs.Search as S
 use Rattle.search.specs.declared.Search.{Search}
 use Rattle.search.specs.declared.Limit.{Limit}
-use Rattle.search.specs.declared.High.{High}
-use Rattle.search.specs.declared.High.TheVariants as H
 use Rattle.search.specs.declared.Verdict.{Verdict}
 use Rattle.search.specs.declared.Verdict.TheVariants.{Accepted, Another, Failed}
-
-abbrev pub high_of : High → Option Float
-high_of H.Open = none
-high_of (H.At x) = some x
 
 abbrev pub search_of : Search → S.Search
 search_of s = record {
   alpha = s.step.alpha;
   low = s.step.low;
-  high = cond s.trials.bracketed (some s.step.high) none;
+  high = cond s.trials.bracketed (Some s.step.high) None;
   slope0 = s.step.slope0;
   amax = s.step.amax;
   face = s.trials.face;

@@ -1,17 +1,17 @@
 // The step search along a direction: one record from question to question, and what it hands back after a trial.
 #![tactic(auto)]
 
-ghost use Rattle.std.specs.Prelude.{not, cond, ◌&&◌, ◌||◌, ◌≡◌};
-ghost use Rattle.std.proofs.Math.Option.{some};
+ghost use Rattle.std.specs.Prelude.{not, cond, ◌&&◌, ◌||◌, ◌≡◌, Some, option_map, IfSome};
 ghost use Rattle.std.specs.Float.Ieee as Ieee;
 ghost use Rattle.definition.specs.Number.{zero64};
 ghost use Rattle.definition.specs.Search.{limited as limited_of, with_limit, decreases as decreases_of, flat as flat_of, on_face};
-ghost use Rattle.definition.specs.Search.{following as following_of, goes_on, next_trial, or_failed, judge as judge_of};
+ghost use Rattle.definition.specs.Search.{following as following_of, goes_on, next_trial, judge as judge_of};
 ghost use Rattle.definition.specs.Driver.{no_search};
-ghost use Rattle.search.specs.State.{search_of, high_of, limit_of, verdict_of, Settled, VerdictSettled};
+ghost use Rattle.search.specs.State.{search_of, limit_of, verdict_of, Settled, VerdictSettled};
 
+// Kept: a rule of the project, that the search is a record of floats by value with the trial count beside it.
 // The step, the two ends, the slope at the point held and the limit of the step.
-#[derive(Clone, Copy)]
+#[derive(Clone, Copy, Debug, Default)]
 pub struct Step {
     pub alpha: f64,
     pub low: f64,
@@ -21,7 +21,7 @@ pub struct Step {
 }
 
 // The number of the trial, whether the limit is where a bound is met, and whether there is a high end.
-#[derive(Clone, Copy)]
+#[derive(Clone, Copy, Debug, Default)]
 pub struct Trials {
     pub count: usize,
     pub face: bool,
@@ -29,29 +29,22 @@ pub struct Trials {
 }
 
 // The search: its record of floats, and the trials beside it.
-#[derive(Clone, Copy)]
+#[derive(Clone, Copy, Debug, Default)]
 pub struct Search {
     pub step: Step,
     pub trials: Trials,
 }
 
 // What the search hands back: the step is accepted, another trial, or it has failed.
-#[derive(Clone, Copy)]
+#[derive(Clone, Copy, Debug)]
 pub enum Verdict {
     Accepted,
     Another(Search),
     Failed,
 }
 
-// The high end, where there is one.
-#[derive(Clone, Copy)]
-enum High {
-    Open,
-    At(f64),
-}
-
 // How far the box lets the step go.
-#[derive(Clone, Copy)]
+#[derive(Clone, Copy, Debug)]
 pub struct Limit {
     pub amax: f64,
     pub face: bool,
@@ -66,32 +59,14 @@ const SEARCH_TRIALS: usize = 60;
 pub fn no_search() -> Search
     ensures { (search_of result ≡ no_search) × Settled result }
 {
-    let step = Step {
-        alpha: 0.0,
-        low: 0.0,
-        high: 0.0,
-        slope0: 0.0,
-        amax: 0.0,
-    };
-    let trials = Trials {
-        count: 0,
-        face: false,
-        bracketed: false,
-    };
-    Search {
-        step: step,
-        trials: trials,
-    }
+    Search::default()
 }
 
 // The limit, after a coordinate that meets its bound at a step: an equal step is taken too.
 pub fn limited(distance: f64, limit: Limit) -> Limit
     ensures { limit_of result ≡ limited_of distance (limit_of limit) }
 {
-    if !float::is_finite(distance) {
-        return limit;
-    }
-    if distance <= limit.amax {
+    if float::is_finite(distance) && distance <= limit.amax {
         return Limit {
             amax: distance,
             face: true,
@@ -101,36 +76,31 @@ pub fn limited(distance: f64, limit: Limit) -> Limit
 }
 
 // The first trial within the limit, unless there is nothing to search.
-pub fn with_limit(slope0: f64, limit: Limit) -> Verdict
-    ensures { (verdict_of result ≡ or_failed (with_limit slope0 (limit_of limit))) × VerdictSettled result }
+pub fn with_limit(slope0: f64, limit: Limit) -> Option<Search>
+    ensures trial { option_map search_of result ≡ with_limit slope0 (limit_of limit) }
+    ensures settled { IfSome result Settled }
 {
-    if !float::is_finite(limit.amax) {
-        return Verdict::Failed;
+    if !float::is_finite(limit.amax) || !(0.0 < limit.amax) {
+        return None;
     }
-    if 0.0 < limit.amax {
-        let step = Step {
-            alpha: float::min(1.0, limit.amax),
-            low: 0.0,
-            high: 0.0,
-            slope0: slope0,
-            amax: limit.amax,
-        };
-        let trials = Trials {
-            count: 1,
-            face: limit.face,
-            bracketed: false,
-        };
-        return Verdict::Another(Search {
-            step: step,
-            trials: trials,
-        });
-    }
-    Verdict::Failed
+    let step = Step {
+        alpha: float::min(1.0, limit.amax),
+        slope0,
+        amax: limit.amax,
+        ..Step::default()
+    };
+    let trials = Trials {
+        count: 1,
+        face: limit.face,
+        bracketed: false,
+    };
+    Some(Search { step, trials })
 }
 
 // ---- after a trial: the value held, and value and slope at the trial
 
 // The decrease test: equality passes.
+#[tactic(auto, using(float::proofs::Constants::c1_is))]
 fn decreases(search: Search, held: f64, value: f64) -> bool
     ensures { result ≡ decreases_of (search_of search) held value }
 {
@@ -138,6 +108,7 @@ fn decreases(search: Search, held: f64, value: f64) -> bool
 }
 
 // The slope test: equality passes.
+#[tactic(auto, using(float::proofs::Constants::constants))]
 fn flat(search: Search, slope: f64) -> bool
     ensures { result ≡ flat_of (search_of search) slope }
 {
@@ -148,36 +119,21 @@ fn flat(search: Search, slope: f64) -> bool
 fn on_face(search: Search, held: f64, value: f64) -> bool
     ensures { result ≡ on_face (search_of search) held value }
 {
-    if !search.trials.face {
-        return false;
-    }
-    if search.step.alpha == search.step.amax {
-        return value < held;
-    }
-    false
+    search.trials.face && search.step.alpha == search.step.amax && value < held
 }
 
 // Whether the step is accepted, by the decrease test.
 fn accepts(search: Search, decrease: bool, held: f64, value: f64, slope: f64) -> bool
     ensures { result ≡ (decrease && (flat_of (search_of search) slope || on_face (search_of search) held value)) }
 {
-    if !decrease {
-        return false;
-    }
-    if flat(search, slope) {
-        return true;
-    }
-    on_face(search, held, value)
+    decrease && (flat(search, slope) || on_face(search, held, value))
 }
 
 // Whether the trial becomes the high end, by the decrease test.
 fn narrows(decrease: bool, slope: f64) -> bool
     ensures { result ≡ (not decrease || Ieee.le zero64 slope) }
 {
-    if !decrease {
-        return true;
-    }
-    0.0 <= slope
+    !decrease || 0.0 <= slope
 }
 
 // The ends after a trial that is not accepted: it becomes the high end or the low one.
@@ -191,77 +147,64 @@ fn low_after(search: Search, narrow: bool) -> f64
     }
 }
 
-fn high_after(search: Search, narrow: bool) -> High
-    ensures { high_of result ≡ cond narrow (some (search_of search).alpha) (search_of search).high }
+fn high_after(search: Search, narrow: bool) -> Option<f64>
+    ensures { result ≡ cond narrow (Some (search_of search).alpha) (search_of search).high }
 {
     if narrow {
-        return High::At(search.step.alpha);
+        Some(search.step.alpha)
+    } else if search.trials.bracketed {
+        Some(search.step.high)
+    } else {
+        None
     }
-    if search.trials.bracketed {
-        return High::At(search.step.high);
-    }
-    High::Open
 }
 
 // The step after this one: between the ends, or twice as far up to the limit.
-fn following(search: Search, low: f64, high: High) -> f64
-    ensures { result ≡ following_of (search_of search) low (high_of high) }
+#[tactic(auto, using(float::proofs::Constants::two_is, float::proofs::Constants::half_is))]
+fn following(search: Search, low: f64, high: Option<f64>) -> f64
+    ensures { result ≡ following_of (search_of search) low high }
 {
-    let High::At(end) = high else {
-        return float::min(search.step.alpha * 2.0, search.step.amax);
-    };
-    (low + end) * 0.5
+    match high {
+        Some(end) => (low + end) * 0.5,
+        None => float::min(search.step.alpha * 2.0, search.step.amax),
+    }
 }
 
 // Another trial is made unless the step would stay, be 0, or be one too many.
 fn goes_on(search: Search, next: f64) -> bool
     ensures { result ≡ goes_on (search_of search) next }
 {
-    if next == search.step.alpha {
-        return false;
-    }
-    if next == 0.0 {
-        return false;
-    }
-    search.trials.count < SEARCH_TRIALS
+    !(next == search.step.alpha || next == 0.0 || SEARCH_TRIALS <= search.trials.count)
 }
 
-// The trial at the step `next`, between the ends low and high.
-fn next_trial(search: Search, low: f64, high: High, next: f64) -> Verdict
-    ensures { (verdict_of result ≡ or_failed (next_trial (search_of search) low (high_of high) next)) × VerdictSettled result }
+// The trial at the step `next`, between the ends low and high: an absent high end stands as 0.
+fn next_trial(search: Search, low: f64, high: Option<f64>, next: f64) -> Option<Search>
+    ensures trial { option_map search_of result ≡ next_trial (search_of search) low high next }
+    ensures settled { IfSome result Settled }
 {
     if !goes_on(search, next) {
-        return Verdict::Failed;
+        return None;
     }
-    let mut step = search.step;
-    step.alpha = next;
-    step.low = low;
-    let mut trials = search.trials;
-    trials.count = search.trials.count + 1;
-    match high {
-        High::Open => {
-            step.high = 0.0;
-            trials.bracketed = false;
-            Verdict::Another(Search {
-                step: step,
-                trials: trials,
-            })
-        }
-        High::At(end) => {
-            step.high = end;
-            trials.bracketed = true;
-            Verdict::Another(Search {
-                step: step,
-                trials: trials,
-            })
-        }
-    }
+    let end = high.unwrap_or(0.0);
+    let step = Step {
+        alpha: next,
+        low,
+        high: end,
+        ..search.step
+    };
+    let trials = Trials {
+        count: search.trials.count + 1,
+        bracketed: high.is_some(),
+        ..search.trials
+    };
+    Some(Search { step, trials })
 }
 
 // The trial after one that is not accepted.
-fn after_trial(search: Search, narrow: bool) -> Verdict
-    ensures { let s = search_of search in let low = cond narrow s.low s.alpha in let high = cond narrow (some s.alpha) s.high in
-        (verdict_of result ≡ or_failed (next_trial s low high (following_of s low high))) × VerdictSettled result }
+fn after_trial(search: Search, narrow: bool) -> Option<Search>
+    ensures trial { let s = search_of search in let low = cond narrow s.low s.alpha in let high = cond narrow (Some s.alpha) s.high in
+        option_map search_of result ≡ next_trial s low high (following_of s low high) }
+    ensures settled { IfSome result Settled }
 {
     let low = low_after(search, narrow);
     let high = high_after(search, narrow);
@@ -269,6 +212,7 @@ fn after_trial(search: Search, narrow: bool) -> Verdict
 }
 
 // What the search hands back after a trial. The decrease test is made once.
+#[tactic(auto, unfolding(definition::specs::Search::accepts, definition::specs::Search::after_trial))]
 pub fn judge(search: Search, held: f64, value: f64, slope: f64) -> Verdict
     ensures { (verdict_of result ≡ judge_of (search_of search) held value slope) × VerdictSettled result }
 {
@@ -276,5 +220,8 @@ pub fn judge(search: Search, held: f64, value: f64, slope: f64) -> Verdict
     if accepts(search, decrease, held, value, slope) {
         return Verdict::Accepted;
     }
-    after_trial(search, narrows(decrease, slope))
+    match after_trial(search, narrows(decrease, slope)) {
+        Some(next) => Verdict::Another(next),
+        None => Verdict::Failed,
+    }
 }

@@ -2,7 +2,7 @@
 use mathlib.Core.Path.{◌≡◌, ap, ◌∙◌}
 use mathlib.Core.Bool.{Bool, true, false, cond}
 use mathlib.Core.List.{List, ◌++◌}
-use mathlib.Core.Option.{Option, none, some}
+use Rattle.std.specs.Prelude.{Option, None, Some}
 use Prim.Native.Nat.{ℕ, suc, ◌+◌, ◌-◌, ◌*◌, ◌≤◌, ◌<◌}
 use native.Mathlib.Numerals.{add-one}
 use native.Mathlib.Omega.{arith}
@@ -21,10 +21,10 @@ use Rattle.subspace.specs.State.{Minimizes, ends_in, difference_array, direction
 
 -- both ends, where there is a minimum
 abbrev pub both_ends : List Float → Option (List Float) → Option Ends
-both_ends p o = o and_then λ q. some (record { cauchy = p; target = q })
+both_ends p o = o and_then λ q. Some (record { cauchy = p; target = q })
 
-pub both_ends_lem : {F : Option (List Float)} {a b : Vecs} {ok : Bool} → Minimizes F a ok b → cond ok (some (ends_in b)) none ≡ both_ends (a vector_cauchy) F
-both_ends_lem {a = a} {b = b} {ok = true} m = (λ k. some (record { cauchy = m.cauchy k; target = b vector_target })) ∙ ap (both_ends (a vector_cauchy)) m.is
+pub both_ends_lem : {F : Option (List Float)} {a b : Vecs} {ok : Bool} → Minimizes F a ok b → cond ok (Some (ends_in b)) None ≡ both_ends (a vector_cauchy) F
+both_ends_lem {a = a} {b = b} {ok = true} m = (λ k. Some (record { cauchy = m.cauchy k; target = b vector_target })) ∙ ap (both_ends (a vector_cauchy)) m.is
 both_ends_lem {a = a} {ok = false} m = ap (both_ends (a vector_cauchy)) m.is
 
 -- ---- an array of a word for each coordinate that there may be, of which a loop fills the first n
@@ -45,9 +45,6 @@ filled_more {most} {n} {f} {b} {i} r h =
     let q : most - i ≡ suc (most - suc i) = omega (arith, r.within) in
     record { upto = omega arith; within = r.within; is = rw (add-one, r.is, q) (set_pad i (most - suc i) f zero64) }
 
-pub filled_done : {most n : ℕ} {f : ℕ → Float} {b : List Float} {i : ℕ} → Filled most n f b i → n ≤ i → b ≡ tab n f ++ replicate (most - n) zero64
-filled_done {n = n} {i = i} r h = let e : i ≡ n = omega (arith, r.upto) in rw e at r.is
-
 -- ---- the direction
 
 -- the part of the area that is vector p
@@ -62,9 +59,6 @@ end_is false a n d = d ∙ part_lent a vector_target n
 pub end_long : (t : Bool) (a : List Float) (n : ℕ) {e : List Float} → first_pair * n ≤ length a → e ≡ cond t (lent a n vector_cauchy) (lent a n vector_target) → length e ≡ n
 end_long true a n l d = ap length (d ∙ part_lent a vector_cauchy n) ∙ length-view a n vector_cauchy (omega arith)
 end_long false a n l d = ap length (d ∙ part_lent a vector_target n) ∙ length-view a n vector_target (omega arith)
-
-pub point_long : (a : List Float) (n : ℕ) → first_pair * n ≤ length a → length (lent a n vector_x) ≡ n
-point_long a n l = ap length (part_lent a vector_x n) ∙ length-view a n vector_x (omega arith)
 
 -- what the array holds, made of the slices that are lent
 pub direction_is : (t : Bool) (a : List Float) (n : ℕ) {e w : List Float} → first_pair * n ≤ length a → e ≡ cond t (lent a n vector_cauchy) (lent a n vector_target)

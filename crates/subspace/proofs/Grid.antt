@@ -1,13 +1,11 @@
 -- Laws of the matrices that loops change entry by entry, and of the sums over the free coordinates. Assumes nothing.
 use mathlib.Core.Path.{◌≡◌, refl, sym, ap, ◌∙◌}
-use mathlib.Core.Bool.{Bool, true, false, not, cond}
+use mathlib.Core.Bool.{Bool, true, false, cond}
 use mathlib.Core.List.{List, [], ◌∷◌, ◌++◌}
 use Prim.Native.Nat.{ℕ, zero, suc, ◌+◌, ◌-◌, ◌*◌, ◌≤◌, ◌<◌}
-use native.Mathlib.Numerals.{add-one}
 use native.Mathlib.Omega.{arith}
-use borrow.Author.Tests.{not-true, not-false}
-use lib.ListN.{length, get_or, set, replicate, length-set}
-use lib.Seq.{get_or-set_same, get_or-set_other}
+use lib.ListN.{length, get_or, set, replicate, length-append, get_or-append}
+use lib.Seq.{get_or-append-add}
 use lib.Ieee.{Float, nan}
 use Rattle.definition.specs.Number.{plus, times, zero64, neg_zero}
 use Rattle.definition.specs.Vector.{tab, word, fold_to}
@@ -16,6 +14,7 @@ use Rattle.definition.specs.Compact.{padded, zero_row, padded_rows}
 use Rattle.definition.specs.Geometry.{free_sum}
 use Rattle.area.specs.Area.{Vecs, fold_rows}
 use Rattle.compact.specs.declared.Shape.{Shape}
+use Rattle.compact.specs.declared.Model.{Model}
 use Rattle.compact.specs.State.{column_slot, compact_of, Modelled}
 use Rattle.compact.proofs.Laws.{tab_same, fold_same, padded-get, pairs_count}
 use Rattle.subspace.specs.State.{free_in, columns_in, grid, row_each, each, product_to, four_to, add_rows, Held, add_free, reduced_by, free_sum_at, reduced_at}
@@ -113,7 +112,7 @@ shaped_grid size a g e =
     ∙ ap (λ (r : List Float). word r j) (padded-get zero_row size (λ i. padded zero64 size (g i)) i [] k)
     ∙ padded-get zero64 size (g i) j nan l))
 
-four_is : (size : ℕ) (p a : Matrix) → a ≡ grid size (entry a) → each size (four_to p) a ≡ add_rows size p 4 a
+four_is : (size : ℕ) (p a : Matrix) → a ≡ grid size (entry a) → each size (four_to p) a ≡ fold_to 4 (λ t b. each size (product_to (row p t)) b) a
 unfolding fold_to
 four_is size p a e =
     let g = entry a in
@@ -128,52 +127,50 @@ four_is size p a e =
     ∙ ap (E 3) (each_grid size (f 2) (λ i j. f 1 i j (f 0 i j (g i j))))
     ∙ each_grid size (f 3) (λ i j. f 2 i j (f 1 i j (f 0 i j (g i j)))))
 
--- row c put
-rows-put : (size : ℕ) (p : Matrix) (c : ℕ) (r : List Float) (a : Matrix) → c < length p
-    → add_rows size (set p c r) (suc c) a ≡ each size (product_to r) (add_rows size p c a)
+-- one row more
+rows-more : (size : ℕ) (p : Matrix) (r : List Float) (a : Matrix) → add_rows size (p ++ (r ∷ [])) a ≡ each size (product_to r) (add_rows size p a)
 unfolding fold_to
-rows-put size p c r a l =
-    ap (λ (x : List Float). each size (product_to x) (add_rows size (set p c r) c a)) (get_or-set_same p c r [] l)
-    ∙ ap (each size (product_to r))
-    (fold_same c _ _ a (λ t b k. ap (λ (x : List Float). each size (product_to x) b) (get_or-set_other p c t r [] (λ e. omega arith))))
+rows-more size p r a =
+    let n = length p in
+    let long : length (p ++ (r ∷ [])) ≡ suc n = length-append p (r ∷ []) ∙ (let z : n + 1 ≡ suc n = omega arith in z) in
+    let last : row (p ++ (r ∷ [])) n ≡ r =
+    (let z : n ≡ n + 0 = omega arith in ap (row (p ++ (r ∷ []))) z) ∙ get_or-append-add p (r ∷ []) 0 [] in
+    rw long
+    (ap (λ (x : List Float). each size (product_to x) (fold_to n (λ t b. each size (product_to (row (p ++ (r ∷ [])) t)) b) a)) last
+    ∙ ap (each size (product_to r)) (fold_same n _ _ a (λ t b k. ap (λ (x : List Float). each size (product_to x) b) (get_or-append p (r ∷ []) [] t k))))
 
-abbrev Pushes : Shape → (ℕ → Float) → Matrix → ℕ → Matrix → Matrix → ℕ → Matrix → Type 0
-Pushes h w p c a q d b = Held (2 * h.pairs) q d b × (add_rows (2 * h.pairs) q d b ≡ add_free h w (add_rows (2 * h.pairs) p c a))
+abbrev Pushes : Shape → (ℕ → Float) → Matrix → Matrix → Matrix → Matrix → Type 0
+Pushes h w p a q b = Held (2 * h.pairs) q b × (add_rows (2 * h.pairs) q b ≡ add_free h w (add_rows (2 * h.pairs) p a))
 
-pub push_none : (h : Shape) (w : ℕ → Float) (p : Matrix) (c : ℕ) (a : Matrix) (t : Bool) → t ≡ free_in w → not t ≡ true → Held (2 * h.pairs) p c a
-    → Pushes h w p c a p c a
-push_none h w p c a t e d k = (k, rw (sym e ∙ not-true t d))
+module _ (h : Shape) (w : ℕ → Float) (p : Matrix) (a : Matrix) {r : List Float} {q : Matrix} (free : free_in w ≡ true) (columns : r ≡ columns_in h w)
+    (held : Held (2 * h.pairs) p a) (more : q ≡ p ++ (r ∷ [])) where
+  pushed : each (2 * h.pairs) (product_to r) (add_rows (2 * h.pairs) p a) ≡ add_free h w (add_rows (2 * h.pairs) p a)
+  pushed = rw free (ap (λ (x : List Float). each (2 * h.pairs) (product_to x) (add_rows (2 * h.pairs) p a)) columns)
 
-pub push_more : (h : Shape) (w : ℕ → Float) (p : Matrix) (c : ℕ) (a : Matrix) (r : List Float) (t : Bool) → t ≡ free_in w → not t ≡ false → r ≡ columns_in h w
-    → Held (2 * h.pairs) p c a → c < 3 → Pushes h w p c a (set p c r) (c + 1) a
-push_more h w p c a r t e d q k l = (
-  record { few = omega arith; four = simp length-set k.four; shaped = k.shaped },
-  rw (sym e ∙ not-false t d, add-one)
-      (rows-put (2 * h.pairs) p c r a (omega (arith, k.four)) ∙ ap (λ (x : List Float). each (2 * h.pairs) (product_to x) (add_rows (2 * h.pairs) p c a)) q),
-)
+  pub push_more : length q < 4 → Pushes h w p a q a
+  push_more l = (
+    record { few = l; shaped = held.shaped },
+    rw more (rows-more (2 * h.pairs) p r a) ∙ pushed,
+  )
 
-pub push_four : (h : Shape) (w : ℕ → Float) (p : Matrix) (c : ℕ) (a b : Matrix) (r : List Float) (t : Bool) → t ≡ free_in w → not t ≡ false → r ≡ columns_in h w
-    → Held (2 * h.pairs) p c a → 3 ≤ c → b ≡ each (2 * h.pairs) (four_to (set p c r)) a → Pushes h w p c a (set p c r) 0 b
-unfolding fold_to
-push_four h w p c a b r t e d q k l s =
-    let size = 2 * h.pairs in
-    let n : 4 ≡ suc c = omega (arith, k.few) in (
-      record {
-        few = omega arith;
-        four = simp length-set k.four;
-        shaped = shaped_grid size b _ (s ∙ ap (each size (four_to (set p c r))) k.shaped ∙ each_grid size (four_to (set p c r)) (entry a));
-      },
-      rw (sym e ∙ not-false t d)
-          (s
-          ∙ four_is size (set p c r) a k.shaped
-          ∙ ap (λ (m : ℕ). add_rows size (set p c r) m a) n
-          ∙ rows-put size p c r a (omega (arith, k.four, k.few))
-          ∙ ap (λ (x : List Float). each size (product_to x) (add_rows size p c a)) q),
-    )
+  pub push_four : (b : Matrix) → length q ≡ 4 → b ≡ each (2 * h.pairs) (four_to q) a → Pushes h w p a [] b
+  unfolding fold_to
+  push_four b l s =
+      let size = 2 * h.pairs in (
+        record {
+          few = omega arith;
+          shaped = shaped_grid size b _ (s ∙ ap (each size (four_to q)) held.shaped ∙ each_grid size (four_to q) (entry a));
+        },
+        s
+            ∙ four_is size q a held.shaped
+            ∙ ap (λ (m : ℕ). fold_to m (λ t b. each size (product_to (row q t)) b) a) (sym l)
+            ∙ rw more (rows-more size p r a)
+            ∙ pushed,
+      )
 
 -- before the first coordinate
-pub held_none : (size : ℕ) (p a : Matrix) (g : ℕ → ℕ → Float) → length p ≡ 4 → a ≡ grid size g → Held size p 0 a
-held_none size p a g l e = record { few = omega arith; four = l; shaped = shaped_grid size a g e }
+pub held_none : (size : ℕ) (a : Matrix) (g : ℕ → ℕ → Float) → a ≡ grid size g → Held size [] a
+held_none size a g e = record { few = omega arith; shaped = shaped_grid size a g e }
 
 -- ---- over every coordinate
 
@@ -186,15 +183,35 @@ sums_are h (suc n) v =
     ap (add_free h w) (sums_are h n v)
     ∙ add_free_lem h w (λ i j. free_sum_at n v (column_slot h i) (column_slot h j)) (free_in w)
 
+-- zeros throughout
+tab_same_zero : {A : Type 0} (n k : ℕ) (z : A) → n ≤ k → tab n (λ i. z) ++ replicate (k - n) z ≡ replicate k z
+unfolding tab
+tab_same_zero zero k z h = let e : k - 0 ≡ k = omega arith in rw e refl
+tab_same_zero (suc n) zero z h = absurd (omega arith)
+tab_same_zero (suc n) (suc k) z h =
+    let e : suc k - suc n ≡ k - n = omega arith in
+    rw e (ap (λ l. z ∷ l) (tab_same_zero n k z (omega arith)))
+
+grid_zeros : (size : ℕ) → size ≤ 32 → grid size (λ i j. zero64) ≡ replicate 32 zero_row
+unfolding padded
+grid_zeros size h =
+    ap (λ (r : List Float). tab size (λ i. r) ++ replicate (32 - size) zero_row) (tab_same_zero size 32 zero64 h)
+    ∙ tab_same_zero size 32 zero_row h
+
 -- and the reduced matrix from them
-pub reduced_are : {h : Shape} {theta : Float} {m : Matrix} {v : Vecs} (a : Matrix) {b : Matrix} → Modelled h theta m v
-    → a ≡ grid (2 * h.pairs) (λ i j. free_sum_at h.n v (column_slot h i) (column_slot h j))
-    → b ≡ fold_to (2 * h.pairs) (λ i c. row_each (2 * h.pairs) (reduced_by theta m i) i c) a
-    → b ≡ padded_rows (compact_of h theta v) (reduced_at h theta v)
-reduced_are {h} {theta} {m} {v} a r e s =
+pub reduced_are : {m : Model} {v : Vecs} (a : Matrix) {b : Matrix} → Modelled m v
+    → a ≡ grid (2 * m.shape.pairs) (λ i j. free_sum_at m.shape.n v (column_slot m.shape i) (column_slot m.shape j))
+    → b ≡ each (2 * m.shape.pairs) (reduced_by m.theta m.block) a
+    → b ≡ padded_rows (compact_of m.shape m.theta v) (reduced_at m.shape m.theta v)
+reduced_are {m} {v} a r e s =
+    let h = m.shape in
     let size = 2 * h.pairs in
     rw (pairs_count h v)
     (s
-    ∙ unfold each in ap (each size (reduced_by theta m)) e
-    ∙ each_grid size (reduced_by theta m) (λ i j. free_sum_at h.n v (column_slot h i) (column_slot h j))
+    ∙ ap (each size (reduced_by m.theta m.block)) e
+    ∙ each_grid size (reduced_by m.theta m.block) (λ i j. free_sum_at h.n v (column_slot h i) (column_slot h j))
     ∙ grid_same size _ _ (λ i j k l. reduced_is i j _ r k l refl))
+
+-- the sums where there is no term
+pub start_is : (size : ℕ) (a : Matrix) → size ≤ 32 → a ≡ replicate 32 zero_row → each size (λ i j x. neg_zero) a ≡ grid size (λ i j. neg_zero)
+start_is size a h e = ap (each size (λ i j x. neg_zero)) (e ∙ sym (grid_zeros size h)) ∙ each_grid size (λ i j x. neg_zero) (λ i j. zero64)

@@ -1,33 +1,54 @@
 -- Laws of the free coordinates and of the columns of W over them. Assumes nothing.
 use mathlib.Core.Path.{◌≡◌, refl, sym, ap, ◌∙◌}
-use mathlib.Core.Bool.{Bool, true, false, cond, ◌||◌}
-use mathlib.Core.List.{List}
-use Prim.Native.Nat.{ℕ, ◌+◌, ◌*◌, ◌≤◌, ◌<◌}
+use mathlib.Core.Bool.{Bool, false, cond, ◌||◌}
+use mathlib.Core.List.{List, [], ◌∷◌, ◌++◌}
+use Rattle.std.specs.List.{list_any, range_with_len}
+use Rattle.std.proofs.lemmas.List.Recursion.{or_push}
+use Prim.Native.Nat.{ℕ, zero, suc, ◌+◌, ◌*◌, ◌≤◌, ◌<◌}
 use native.Mathlib.Numerals.{add-one}
 use native.Mathlib.Omega.{arith}
 use lib.Ieee.{Float, nan}
 use Rattle.definition.specs.Number.{plus, minus, times, over, neg_zero}
 use Rattle.definition.specs.Vector.{tab, word, fold_to}
-use Rattle.definition.specs.Solve.{Matrix, entry}
+use Rattle.definition.specs.Solve.{entry}
 use Rattle.definition.specs.Compact.{column_word}
 use Rattle.definition.specs.Geometry.{free, free_sum, correction}
-use Rattle.area.specs.Area.{Vecs, bounds_of, upd, view, words_at, rowwise, fold_rows, fill_of, vector_cauchy, vector_product_d, vector_step}
-use Rattle.area.proofs.Laws.{Folded, fold_more, looped_stays, upd_other}
+use Rattle.area.specs.Area.{Vecs, bounds_of, upd, view, words_at, rowwise, fill_of, vector_cauchy, vector_product_d, vector_step}
+use Rattle.area.proofs.Laws.{upd_other, word-view}
 use Rattle.compact.specs.declared.Shape.{Shape}
+use Rattle.compact.specs.declared.Model.{Model}
 use Rattle.compact.specs.State.{column_slot, compact_of, Laid, Modelled}
 use Rattle.compact.proofs.Laws.{tab-get, tab_same, fold_same, pairs_count}
 use Rattle.compact.proofs.Columns.{laid_word}
 use Rattle.compact.proofs.Laws.{upd_twice}
 use Rattle.compact.proofs.Models.{modelled_entry}
-use Rattle.subspace.specs.State.{free_in, any_free_at, free_sum_at, reduced_at, corrections_at}
+use Rattle.subspace.specs.declared.Coordinate.{Coordinate}
+use Rattle.subspace.specs.State.{coordinate_of, free_of, free_in, any_free_at, free_sum_at, reduced_at, corrections_at}
 
--- one free coordinate is enough
-pub any_found : (a : List Float) (n i : ℕ) (t : Bool) → Folded a n false (λ i w t. t || free_in w) false i → i < n → t ≡ free_in (words_at a n i) → t ≡ true
-    → true ≡ any_free_at n (view a n)
-unfolding fold_rows
-any_found a n i t r l e d =
-    let s : Folded a n false (λ i w t. t || free_in w) true (i + 1) = fold_more r l (sym d ∙ e) in
-    looped_stays (λ k. refl) (record { upto = s.upto; is = s.is })
+-- whether a coordinate is free, read off the words at its index
+pub is_free_in : (w : ℕ → Float) {k : Coordinate} {t : Bool} → k ≡ coordinate_of w → t ≡ free_of k → free_in w ≡ t
+is_free_in w e f = sym (f ∙ ap free_of e)
+
+-- ---- whether any coordinate is free
+
+range_more : (a n : ℕ) → range_with_len a (suc n) ≡ range_with_len a n ++ ((a + n) ∷ [])
+range_more a zero = let e : a ≡ a + 0 = omega arith in ap (λ (k : ℕ). k ∷ []) e
+range_more a (suc n) =
+    let e : a + 1 + n ≡ a + suc n = omega arith in
+    ap (λ l. a ∷ l) (range_more (a + 1) n ∙ ap (λ (k : ℕ). range_with_len (a + 1) n ++ (k ∷ [])) e)
+
+any_range : (f : ℕ → Bool) (n : ℕ) → list_any f (range_with_len 0 n) ≡ fold_to n (λ i t. t || f i) false
+unfolding fold_to
+any_range f zero = refl
+any_range f (suc n) =
+    ap (list_any f) (range_more 0 n ∙ (let e : 0 + n ≡ n = omega arith in ap (λ (k : ℕ). range_with_len 0 n ++ (k ∷ [])) e))
+    ∙ or_push (list_any f) f refl (λ _ _. refl) (range_with_len 0 n) n
+    ∙ ap (λ (t : Bool). t || f n) (any_range f n)
+
+pub any_is : (a : List Float) (n : ℕ) → list_any (λ (i : ℕ). free_in (words_at a n i)) (range_with_len 0 n) ≡ any_free_at n (view a n)
+any_is a n =
+    any_range (λ (i : ℕ). free_in (words_at a n i)) n
+    ∙ fold_same n _ _ false (λ i t l k. t || free_in (λ (q : ℕ). word-view a n q i l k))
 
 -- ---- the reduced system
 
@@ -37,9 +58,11 @@ free_same n v f g e =
     fold_same n (λ k s. cond (free (bounds_of v) (v vector_cauchy) k) (plus s (f k)) s) (λ k s. cond (free (bounds_of v) (v vector_cauchy) k) (plus s (g k)) s) neg_zero
     (λ k s l t. cond (free (bounds_of v) (v vector_cauchy) k) (plus s (e k l t)) s)
 
-pub reduced_is : {h : Shape} {theta : Float} {m : Matrix} {v : Vecs} (i j : ℕ) (s : Float) → Modelled h theta m v → i < 2 * h.pairs → j < 2 * h.pairs
-    → s ≡ free_sum_at h.n v (column_slot h i) (column_slot h j) → minus (entry m i j) (over s theta) ≡ reduced_at h theta v i j
-reduced_is {h} {theta} {m} {v} i j s r k l e =
+pub reduced_is : {m : Model} {v : Vecs} (i j : ℕ) (s : Float) → Modelled m v → i < 2 * m.shape.pairs → j < 2 * m.shape.pairs
+    → s ≡ free_sum_at m.shape.n v (column_slot m.shape i) (column_slot m.shape j) → minus (entry m.block i j) (over s m.theta) ≡ reduced_at m.shape m.theta v i j
+reduced_is {m} {v} i j s r k l e =
+    let h = m.shape in
+    let theta = m.theta in
     let f : s ≡ free_sum h.n (bounds_of v) (v vector_cauchy) (λ k. times (column_word (compact_of h theta v) i k) (column_word (compact_of h theta v) j k)) =
     e ∙ free_same h.n v _ _ (λ d n t. times (laid_word r.laid i d k n t) (laid_word r.laid j d l n t)) in
     λ t. minus (modelled_entry i j r k l t) (over (f t) theta)

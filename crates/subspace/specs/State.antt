@@ -1,6 +1,6 @@
 -- The minimum over the free coordinates of the Cauchy point, and the direction to the chosen end, read off the area.
 use Rattle.std.specs.Prelude.{ℕ, ◌-◌, ◌*◌, ◌<◌, ◌≡◌, Bool, cond, ◌&&◌, List, ◌++◌, length, replicate, Float}
-use Rattle.std.proofs.Math.Option.{Option, some}
+use Rattle.std.specs.Prelude.{Option, Some}
 use Rattle.std.specs.Float.Ieee as Ieee
 use Rattle.definition.specs.Number.{plus, minus, times, over, min, clamp, zero64}
 use Rattle.definition.specs.Vector.{tab, word, fold_to, difference, ◌and_then◌}
@@ -10,15 +10,41 @@ use Rattle.definition.specs.Compact.{count, padded, zero_row, padded_rows, produ
 use Rattle.definition.specs.Geometry.{any_free, free_sum, reduced_entry, reduced_right, correction, steps_of, share_of, moved, moved_by, on_free, primal_minimize}
 use Rattle.definition.specs.Machine.{state}
 use Rattle.definition.specs.Driver.{Ends, chosen_end}
-use Rattle.area.specs.Area.{Vecs, bounds_of, upd, given, ScratchOnly, vector_x, vector_g, vector_lower, vector_upper, vector_direction, vector_cauchy, vector_target, vector_product_d, vector_step}
+use Rattle.area.specs.Area.{Vecs, view, bounds_of, upd, given, ScratchOnly, vector_x, vector_g, vector_lower, vector_upper, vector_direction, vector_cauchy, vector_target, vector_product_d, vector_step}
 use Rattle.compact.specs.declared.Shape.{Shape}
-use Rattle.compact.specs.State.{column_slot, compact_of}
+use Rattle.compact.specs.declared.Model.{Model}
+use Rattle.subspace.specs.declared.Coordinate.{Coordinate}
+use Rattle.compact.specs.State.{column_slot, compact_of, Sound, Modelled}
+
+-- the area holds the pairs, and the model is theirs
+abbrev pub Ready : Model → List Float → Type 0
+Ready m a = Sound m.shape (length a) × Modelled m (view a m.shape.n)
+
+-- ---- at one coordinate
+
+-- strictly between its bounds
+abbrev pub free_of : Coordinate → Bool
+free_of k = Ieee.lt k.lower k.cauchy && Ieee.lt k.cauchy k.upper
+
+-- how far it lets the step go
+abbrev pub shortened_of : Coordinate → Float → Float → Float
+shortened_of k step alpha =
+    cond (Ieee.lt zero64 step) (min alpha (over (minus k.upper k.cauchy) step))
+    (cond (Ieee.lt step zero64) (min alpha (over (minus k.lower k.cauchy) step)) alpha)
+
+abbrev pub shared_of : Coordinate → Float → Float → Float
+shared_of k step alpha = cond (free_of k) (shortened_of k step alpha) alpha
+
+abbrev pub moved_of : Coordinate → Float → Float → Float
+moved_of k step alpha = cond (free_of k) (clamp (plus k.cauchy (times alpha step)) k.lower k.upper) k.cauchy
 
 -- ---- from the words at one index
 
--- strictly between its bounds
+abbrev pub coordinate_of : (ℕ → Float) → Coordinate
+coordinate_of w = record { cauchy = w vector_cauchy; lower = w vector_lower; upper = w vector_upper }
+
 abbrev pub free_in : (ℕ → Float) → Bool
-free_in w = Ieee.lt (w vector_lower) (w vector_cauchy) && Ieee.lt (w vector_cauchy) (w vector_upper)
+free_in w = free_of (coordinate_of w)
 
 -- the sum s, and the product of two vectors where the coordinate is free
 abbrev pub free_term : ℕ → ℕ → (ℕ → Float) → Float → Float
@@ -28,24 +54,26 @@ free_term p q w s = cond (free_in w) (plus s (times (w p) (w q))) s
 abbrev pub columns_in : Shape → (ℕ → Float) → List Float
 columns_in h w = padded zero64 (2 * h.pairs) (λ j. w (column_slot h j))
 
+-- f of the residual and of what stands in the step's place, where the coordinate is free
+abbrev pub free_step_in : (Float → Float → Float) → (ℕ → Float) → Float
+free_step_in f w = cond (free_in w) (f (w vector_product_d) (w vector_step)) zero64
+
+-- a call of a closure, of which P is what it may return, gives f
+abbrev pub ComputesStep : (Float → Float → Float → Type 0) → (Float → Float → Float) → Type 0
+ComputesStep P f = (r s y : Float) → P r s y → y ≡ f r s
+
 -- the step that the residual asks for, and with what the columns add to it
 abbrev pub plain_in : Float → (ℕ → Float) → Float
-plain_in theta w = cond (free_in w) (over (Ieee.neg (w vector_product_d)) theta) zero64
+plain_in theta = free_step_in (λ r s. over (Ieee.neg r) theta)
 
 abbrev pub weighted_in : Float → (ℕ → Float) → Float
-weighted_in theta w = cond (free_in w) (over (Ieee.neg (plus (w vector_product_d) (over (w vector_step) theta))) theta) zero64
-
--- how far this coordinate lets the step go
-abbrev pub shortened_in : (ℕ → Float) → Float → Float
-shortened_in w alpha =
-    cond (Ieee.lt zero64 (w vector_step)) (min alpha (over (minus (w vector_upper) (w vector_cauchy)) (w vector_step)))
-    (cond (Ieee.lt (w vector_step) zero64) (min alpha (over (minus (w vector_lower) (w vector_cauchy)) (w vector_step))) alpha)
+weighted_in theta = free_step_in (λ r s. over (Ieee.neg (plus r (over s theta))) theta)
 
 abbrev pub share_in : (ℕ → Float) → Float → Float
-share_in w alpha = cond (free_in w) (shortened_in w alpha) alpha
+share_in w alpha = shared_of (coordinate_of w) (w vector_step) alpha
 
 abbrev pub moved_in : Float → (ℕ → Float) → Float
-moved_in alpha w = cond (free_in w) (clamp (plus (w vector_cauchy) (times alpha (w vector_step))) (w vector_lower) (w vector_upper)) (w vector_cauchy)
+moved_in alpha w = moved_of (coordinate_of w) (w vector_step) alpha
 
 -- ---- matrices of size rows and columns in an array of 32 rows of 32
 
@@ -59,6 +87,13 @@ row_each size f i a = fold_to size (λ j c. put c i j (f j (entry c i j))) a
 unfoldable pub each : ℕ → (ℕ → ℕ → Float → Float) → Matrix → Matrix
 each size f a = fold_to size (λ i c. row_each size (f i) i c) a
 
+-- a closure may be called at each place, and a call, of which P is what it may return, gives f
+abbrev pub CallableWithin : (ℕ → ℕ → Float → Type 0) → Type 0
+CallableWithin P = (i j : ℕ) (x : Float) → i < 32 → j < 32 → P i j x
+
+abbrev pub Computes : (ℕ → ℕ → Float → Float → Type 0) → (ℕ → ℕ → Float → Float) → Type 0
+Computes P f = (i j : ℕ) (x y : Float) → i < 32 → j < 32 → P i j x y → y ≡ f i j x
+
 -- the sum x, and the product of two words of r
 abbrev pub product_to : List Float → ℕ → ℕ → Float → Float
 product_to r i j x = plus x (times (word r i) (word r j))
@@ -67,14 +102,13 @@ product_to r i j x = plus x (times (word r i) (word r j))
 abbrev pub four_to : Matrix → ℕ → ℕ → Float → Float
 four_to p i j x = product_to (row p 3) i j (product_to (row p 2) i j (product_to (row p 1) i j (product_to (row p 0) i j x)))
 
--- the sums a, and the products of any two words of each of the first c rows of p
-abbrev pub add_rows : ℕ → Matrix → ℕ → Matrix → Matrix
-add_rows size p c a = fold_to c (λ t b. each size (product_to (row p t)) b) a
+-- the sums a, and the products of any two words of each row of p
+abbrev pub add_rows : ℕ → Matrix → Matrix → Matrix
+add_rows size p a = fold_to (length p) (λ t b. each size (product_to (row p t)) b) a
 
--- sums a, to which c of the four rows of p are to be added yet
-pub record Held (size : ℕ) (p : Matrix) (c : ℕ) (a : Matrix) : Type 0 where
-  pub few : c < 4
-  pub four : length p ≡ 4
+-- sums a, to which the rows of p, fewer than four, are to be added yet
+pub record Held (size : ℕ) (p a : Matrix) : Type 0 where
+  pub few : length p < 4
   pub shaped : a ≡ grid size (entry a)
 
 -- the sums a, and the products of any two columns where the coordinate is free
@@ -109,7 +143,7 @@ abbrev pub product_at : Shape → Float → Vecs → Option (List Float)
 product_at h theta v = product h.n (compact_of h theta v) (difference h.n (v vector_cauchy) (v vector_x))
 
 abbrev pub residual_from : ℕ → List Float → Option (List Float) → Option (List Float)
-residual_from n g o = o and_then λ bz. some (tab n (λ i. plus (word bz i) (word g i)))
+residual_from n g o = o and_then λ bz. Some (tab n (λ i. plus (word bz i) (word g i)))
 
 abbrev pub residual_at : Shape → Float → Vecs → Option (List Float)
 residual_at h theta v = residual_from h.n (v vector_g) (product_at h theta v)

@@ -1,58 +1,92 @@
 // The minimum over the free coordinates of the Cauchy point, and the end that the direction leads to.
 #![tactic(auto)]
 
-ghost use Rattle.std.specs.Prelude.{◌≡◌, cond, ℕ, ◌+◌, ◌*◌, ◌≤◌, ◌<◌, length, replicate, Float};
+ghost use Rattle.std.specs.Prelude.{◌≡◌, cond, ℕ, ◌+◌, ◌*◌, ◌≤◌, ◌<◌, length, Float};
 ghost use Rattle.std.specs.Float.Ieee as Ieee;
 ghost use Rattle.definition.specs.Number.{plus, times, zero64, neg_zero};
 ghost use Rattle.definition.specs.Problem.{most_coordinates};
-ghost use Rattle.definition.specs.Compact.{padded, padded_rows};
+ghost use Rattle.definition.specs.Compact.{padded_rows};
 ghost use Rattle.area.specs.Area.{view, upd, words_at, rowwise, first_pair, vector_target, vector_product_d, vector_product_z, vector_step, vector_g};
-ghost use Rattle.solve.specs.Answers.{answer_of};
-ghost use Rattle.compact.specs.State.{compact_of, column_slot, Sound, Laid, Modelled, Prepared};
-ghost use Rattle.subspace.specs.State.{free_in, free_term, columns_in, grid, row_each, each, product_to, four_to, add_rows, Held};
-ghost use Rattle.subspace.specs.State.{add_free, reduced_by, plain_in, weighted_in, shortened_in, share_in, moved_in};
+ghost use Rattle.compact.specs.State.{compact_of, column_slot, Sound};
+ghost use Rattle.subspace.specs.State.{Ready, coordinate_of, free_of, shortened_of, shared_of, moved_of, free_step_in, ComputesStep};
+ghost use Rattle.subspace.specs.State.{columns_in, grid, row_each, each, CallableWithin, Computes, product_to, four_to, add_rows, Held, add_free};
 ghost use Rattle.subspace.specs.State.{difference_array, direction_array, directed, Makes, Minimizes};
 ghost use Rattle.subspace.specs.State.{any_free_at, free_sum_at, reduced_at, right_at, weights_at};
 ghost use Rattle.subspace.specs.State.{residual_at, corrections_at, steps_at, share_at, moved_at, moved_by_at, on_free_at, minimum_at};
 
-// ---- free coordinates
+use arrayvec::ArrayVec;
+use solve::{Matrix, Row, SIZE};
 
-// Whether coordinate i of the Cauchy point lies strictly between its bounds.
-fn is_free(area: &[f64], n: usize, i: usize) -> bool
-    requires { (first_pair * n ≤ length area.now) × (i < n) }
-    ensures { result ≡ free_in (words_at area.now n i) }
-{
-    let x = area[area::CAUCHY * n + i];
-    if area[area::LOWER * n + i] < x {
-        return x < area[area::UPPER * n + i];
-    }
-    false
+// A coordinate of the Cauchy point, and its bounds.
+#[derive(Clone, Copy)]
+pub struct Coordinate {
+    pub cauchy: f64,
+    pub lower: f64,
+    pub upper: f64,
 }
 
-// Whether any coordinate of the Cauchy point is free.
+// ---- one coordinate
+
+impl Coordinate {
+    // Whether it lies strictly between its bounds.
+    fn is_free(self) -> bool
+        ensures { result ≡ free_of self }
+    {
+        self.lower < self.cauchy && self.cauchy < self.upper
+    }
+
+    // How far it, which is free, lets the step go.
+    fn shortened(self, step: f64, alpha: f64) -> f64
+        ensures { result ≡ shortened_of self step alpha }
+    {
+        if 0.0 < step {
+            return float::min(alpha, (self.upper - self.cauchy) / step);
+        }
+        if step < 0.0 {
+            return float::min(alpha, (self.lower - self.cauchy) / step);
+        }
+        alpha
+    }
+
+    // What it leaves of alpha.
+    fn share(self, step: f64, alpha: f64) -> f64
+        ensures { result ≡ shared_of self step alpha }
+    {
+        if self.is_free() {
+            return self.shortened(step, alpha);
+        }
+        alpha
+    }
+
+    // Its word of the target.
+    fn moved(self, step: f64, alpha: f64) -> f64
+        ensures { result ≡ moved_of self step alpha }
+    {
+        if self.is_free() {
+            return float::clamp(self.cauchy + alpha * step, self.lower, self.upper);
+        }
+        self.cauchy
+    }
+}
+
+// Coordinate i.
+fn coordinate_at(area: &[f64], n: usize, i: usize) -> Coordinate
+    requires { (first_pair * n ≤ length area.now) × (i < n) }
+    ensures { result ≡ coordinate_of (words_at area.now n i) }
+{
+    Coordinate {
+        cauchy: area[area::CAUCHY * n + i],
+        lower: area[area::LOWER * n + i],
+        upper: area[area::UPPER * n + i],
+    }
+}
+
+// Whether any coordinate is free.
 fn any_free(area: &[f64], n: usize) -> bool
     requires { first_pair * n ≤ length area.now }
     ensures { result ≡ any_free_at n (view area.now n) }
 {
-    let mut i = 0;
-    while i < n {
-        if is_free(area, n, i) {
-            return true;
-        }
-        i += 1;
-    }
-    false
-}
-
-// The sum, and the product of the words at i of vectors `left` and `right` where i is free.
-fn free_term(area: &[f64], n: usize, left: usize, right: usize, i: usize, sum: f64) -> f64
-    requires { (first_pair * n ≤ length area.now) × (left * n + n ≤ length area.now) × (right * n + n ≤ length area.now) × (i < n) }
-    ensures { result ≡ free_term left right (words_at area.now n i) sum }
-{
-    if is_free(area, n, i) {
-        return sum + area[left * n + i] * area[right * n + i];
-    }
-    sum
+    (0..n).any(|i| coordinate_at(area, n, i).is_free())
 }
 
 // The product of vectors `left` and `right` over the free coordinates, from the left and from -0.0.
@@ -61,10 +95,10 @@ fn free_sum(area: &[f64], n: usize, left: usize, right: usize) -> f64
     ensures { result ≡ free_sum_at n (view area.now n) left right }
 {
     let mut sum = float::NEG_ZERO;
-    let mut i = 0;
-    while i < n {
-        sum = free_term(area, n, left, right, i, sum);
-        i += 1;
+    for i in 0..n {
+        if coordinate_at(area, n, i).is_free() {
+            sum += area[left * n + i] * area[right * n + i];
+        }
     }
     sum
 }
@@ -76,273 +110,187 @@ fn add_gradient(area: &mut [f64], n: usize)
     requires { first_pair * n ≤ length area.old }
     ensures { view area.new n ≡ rowwise n vector_product_d (λ (i : ℕ) w. plus (w vector_product_z) (w vector_g)) (view area.old n) }
 {
-    let mut i = 0;
-    while i < n {
+    for i in 0..n {
         area[area::PRODUCT_D * n + i] = area[area::PRODUCT_Z * n + i] + area[area::G * n + i];
-        i += 1;
     }
 }
 
 // The residual in its vector; false where there is no product with the displacement.
-fn residual(
-    area: &mut [f64],
-    shape: compact::Shape,
-    theta: f64,
-    found: bool,
-    rows: &[[f64; 32]; 32],
-    multipliers: &[[f64; 32]; 32],
-    order: &[usize; 32],
-) -> bool
-    requires { Sound shape (length area.old) × Prepared shape theta found rows.now multipliers.now order.now (view area.old shape.n) }
-    ensures { let v = view area.old shape.n in Makes vector_product_d (residual_at shape theta v) v result (view area.new shape.n) }
+fn residual(area: &mut [f64], model: &compact::Model) -> bool
+    requires { Ready model.now area.old }
+    ensures { let h = model.now.shape in
+        let v = view area.old h.n in
+        Makes vector_product_d (residual_at h model.now.theta v) v result (view area.new h.n) }
 {
-    area::difference(area, shape.n, area::DISPLACEMENT, area::CAUCHY, area::X);
-    let found = compact::product(
-        area,
-        shape,
-        theta,
-        found,
-        rows,
-        multipliers,
-        order,
-        area::PRODUCT_Z,
-        area::DISPLACEMENT,
-    );
-    if !found {
+    let n = model.shape.n;
+    area::difference(area, n, area::DISPLACEMENT, area::CAUCHY, area::X);
+    if !compact::product(area, model, area::PRODUCT_Z, area::DISPLACEMENT) {
         return false;
     }
-    add_gradient(area, shape.n);
+    add_gradient(area, n);
     true
 }
 
 // ---- the reduced system
 
-// Row i of the sums where there is no term: -0.0 in the first size places.
-fn start_row(size: usize) -> [f64; 32]
-    requires { size ≤ 32 }
-    ensures { result ≡ padded zero64 size (λ j. neg_zero) }
+// Each of the first size entries of row i becomes what `change` makes of its place and itself.
+fn change_row<F: Fn(usize, usize, f64) -> f64>(sums: &mut Matrix, size: usize, i: usize, change: &F)
+    requires callable { CallableWithin (F.pre change.now) }
+    requires room { (i < size) × (size ≤ 32) }
+    ensures { (f : ℕ → ℕ → Float → Float) → Computes (F.post change.now) f → sums.new ≡ row_each size (f i) i sums.old }
 {
-    let mut row = compact::zeros();
-    let mut j = 0;
-    while j < size {
-        row[j] = float::NEG_ZERO;
-        j += 1;
+    for j in 0..size {
+        sums[i][j] = change(i, j, sums[i][j]);
     }
-    row
 }
 
-// The sums where there is no term.
-fn start(size: usize) -> [[f64; 32]; 32]
+// Each of the first size entries of the first size rows becomes what `change` makes of its place and itself.
+fn change_each<F: Fn(usize, usize, f64) -> f64>(sums: &mut Matrix, size: usize, change: F)
+    requires callable { CallableWithin (F.pre change) }
+    requires room { size ≤ 32 }
+    ensures { (f : ℕ → ℕ → Float → Float) → Computes (F.post change) f → sums.new ≡ each size f sums.old }
+{
+    for i in 0..size {
+        change_row(sums, size, i, &change);
+    }
+}
+
+// The sums where there is no term: -0.0 in the first size places of the first size rows.
+fn start(size: usize) -> Matrix
     requires { size ≤ 32 }
     ensures { result ≡ grid size (λ i j. neg_zero) }
 {
-    let row = start_row(size);
-    let zero_row = compact::zeros();
-    let mut sums = [zero_row; 32];
-    let mut i = 0;
-    while i < size {
-        sums[i] = row;
-        i += 1;
-    }
+    let mut sums = [[0.0; SIZE]; SIZE];
+    change_each(&mut sums, size, |_, _, _| float::NEG_ZERO);
     sums
 }
 
 // The words of the columns at coordinate i.
-fn gather(area: &[f64], shape: compact::Shape, i: usize) -> [f64; 32]
+fn gather(area: &[f64], shape: compact::Shape, i: usize) -> Row
     requires { Sound shape (length area.now) × (i < shape.n) }
     ensures { result ≡ columns_in shape (words_at area.now shape.n i) }
 {
-    let size = 2 * shape.pairs;
-    let mut row = compact::zeros();
-    let mut j = 0;
-    while j < size {
+    let mut row = [0.0; SIZE];
+    for j in 0..2 * shape.pairs {
         row[j] = area::get(area, shape.n, compact::column_slot(shape, j), i);
-        j += 1;
     }
     row
 }
 
-// Row i of the sums, and the products of the row with its word i.
-fn add_products(sums: &mut [[f64; 32]; 32], size: usize, row: &[f64; 32], i: usize)
-    requires { (i < size) × (size ≤ 32) }
-    ensures { sums.new ≡ row_each size (product_to row.now i) i sums.old }
+// The sums, and the products of any two words of each of the four rows of the batch: a sum is loaded and stored once for the four.
+fn add_fours(sums: &mut Matrix, size: usize, batch: &[Row])
+    requires { (size ≤ 32) × (length batch.now ≡ 4) }
+    ensures { sums.new ≡ each size (four_to batch.now) sums.old }
 {
-    let mut j = 0;
-    while j < size {
-        sums[i][j] = sums[i][j] + row[i] * row[j];
-        j += 1;
-    }
+    change_each(sums, size, |i, j, sum| {
+        sum + batch[0][i] * batch[0][j]
+            + batch[1][i] * batch[1][j]
+            + batch[2][i] * batch[2][j]
+            + batch[3][i] * batch[3][j]
+    });
 }
 
 // The sums, and the products of any two words of the row.
-fn add_row(sums: &mut [[f64; 32]; 32], size: usize, row: &[f64; 32])
+fn add_row(sums: &mut Matrix, size: usize, row: &Row)
     requires { size ≤ 32 }
     ensures { sums.new ≡ each size (product_to row.now) sums.old }
 {
-    let mut i = 0;
-    while i < size {
-        add_products(sums, size, row, i);
-        i += 1;
-    }
+    change_each(sums, size, |i, j, sum| sum + row[i] * row[j]);
 }
 
-// Row i of the sums, and the products of each of the four rows of the batch with its word i.
-fn add_four(sums: &mut [[f64; 32]; 32], size: usize, batch: &[[f64; 32]; 4], i: usize)
-    requires { (i < size) × (size ≤ 32) }
-    ensures { sums.new ≡ row_each size (four_to batch.now i) i sums.old }
-{
-    let mut j = 0;
-    while j < size {
-        sums[i][j] = sums[i][j]
-            + batch[0][i] * batch[0][j]
-            + batch[1][i] * batch[1][j]
-            + batch[2][i] * batch[2][j]
-            + batch[3][i] * batch[3][j];
-        j += 1;
-    }
-}
-
-// The sums, and the products of any two words of each of the four rows of the batch: a sum is loaded and stored once for the four.
-fn add_fours(sums: &mut [[f64; 32]; 32], size: usize, batch: &[[f64; 32]; 4])
+// The sums, and the products of any two words of each row of the batch.
+fn add_rest(sums: &mut Matrix, size: usize, batch: &[Row])
     requires { size ≤ 32 }
-    ensures { sums.new ≡ each size (four_to batch.now) sums.old }
+    ensures { sums.new ≡ add_rows size batch.now sums.old }
 {
-    let mut i = 0;
-    while i < size {
-        add_four(sums, size, batch, i);
-        i += 1;
+    for row in batch {
+        add_row(sums, size, row);
     }
 }
 
-// The sums, and the products of any two words of each of the first count rows of the batch.
-fn add_rest(sums: &mut [[f64; 32]; 32], size: usize, batch: &[[f64; 32]; 4], count: usize)
-    requires { (size ≤ 32) × (count < 4) }
-    ensures { sums.new ≡ add_rows size batch.now count sums.old }
-{
-    let mut k = 0;
-    while k < count {
-        let row = batch[k];
-        add_row(sums, size, &row);
-        k += 1;
-    }
-}
-
-// The columns at coordinate i become row count of the batch where it is free, and four rows are added to the sums; how many are left.
+// The columns at coordinate i join the batch where it is free, and a full batch is added to the sums.
 fn push(
-    sums: &mut [[f64; 32]; 32],
-    batch: &mut [[f64; 32]; 4],
-    count: usize,
+    sums: &mut Matrix,
+    batch: &mut ArrayVec<Row, 4>,
     area: &[f64],
     shape: compact::Shape,
     i: usize,
-) -> usize
-    requires { Sound shape (length area.now) × (i < shape.n) × Held (2 * shape.pairs) batch.old count sums.old }
-    ensures { Held (2 * shape.pairs) batch.new result sums.new
-        × (add_rows (2 * shape.pairs) batch.new result sums.new
-        ≡ add_free shape (words_at area.now shape.n i) (add_rows (2 * shape.pairs) batch.old count sums.old)) }
+)
+    requires { Sound shape (length area.now) × (i < shape.n) × Held (2 * shape.pairs) batch.old.items sums.old }
+    ensures { Held (2 * shape.pairs) batch.new.items sums.new
+        × (add_rows (2 * shape.pairs) batch.new.items sums.new
+        ≡ add_free shape (words_at area.now shape.n i) (add_rows (2 * shape.pairs) batch.old.items sums.old)) }
 {
-    if !is_free(area, shape.n, i) {
-        return count;
+    if !coordinate_at(area, shape.n, i).is_free() {
+        return;
     }
-    let row = gather(area, shape, i);
-    batch[count] = row;
-    if count < 3 {
-        return count + 1;
+    batch.push(gather(area, shape, i));
+    if batch.is_full() {
+        add_fours(sums, 2 * shape.pairs, batch.as_slice());
+        batch.clear();
     }
-    add_fours(sums, 2 * shape.pairs, batch);
-    0
 }
 
 // The products of any two columns over the free coordinates.
-fn sums(area: &[f64], shape: compact::Shape) -> [[f64; 32]; 32]
+fn sums(area: &[f64], shape: compact::Shape) -> Matrix
     requires { Sound shape (length area.now) }
     ensures { let v = view area.now shape.n in
         result ≡ grid (2 * shape.pairs) (λ i j. free_sum_at shape.n v (column_slot shape i) (column_slot shape j)) }
 {
-    let mut sums = start(2 * shape.pairs);
-    let zero_row = compact::zeros();
-    let mut batch = [zero_row; 4];
-    let mut count = 0;
-    let mut i = 0;
-    while i < shape.n {
-        count = push(&mut sums, &mut batch, count, area, shape, i);
-        i += 1;
+    let size = 2 * shape.pairs;
+    let mut sums = start(size);
+    let mut batch = ArrayVec::new();
+    for i in 0..shape.n {
+        push(&mut sums, &mut batch, area, shape, i);
     }
-    add_rest(&mut sums, 2 * shape.pairs, &batch, count);
+    add_rest(&mut sums, size, batch.as_slice());
     sums
 }
 
-// Row i of the sums becomes that of the block, less the sums by theta.
-fn reduce_row(
-    sums: &mut [[f64; 32]; 32],
-    block: &[[f64; 32]; 32],
-    theta: f64,
-    size: usize,
-    i: usize,
-)
-    requires { (i < size) × (size ≤ 32) }
-    ensures { sums.new ≡ row_each size (reduced_by theta block.now i) i sums.old }
+// The reduced matrix, 2 rows and columns for each pair: the block, less the sums by theta.
+fn reduced(area: &[f64], model: &compact::Model) -> Matrix
+    requires { Ready model.now area.now }
+    ensures { let h = model.now.shape in
+        let v = view area.now h.n in
+        result ≡ padded_rows (compact_of h model.now.theta v) (reduced_at h model.now.theta v) }
 {
-    let mut j = 0;
-    while j < size {
-        sums[i][j] = block[i][j] - sums[i][j] / theta;
-        j += 1;
-    }
-}
-
-// The reduced matrix, 2 rows and columns for each pair.
-fn reduced(
-    area: &[f64],
-    shape: compact::Shape,
-    theta: f64,
-    block: &[[f64; 32]; 32],
-) -> [[f64; 32]; 32]
-    requires { Sound shape (length area.now) × Modelled shape theta block.now (view area.now shape.n) }
-    ensures { let v = view area.now shape.n in result ≡ padded_rows (compact_of shape theta v) (reduced_at shape theta v) }
-{
-    let size = 2 * shape.pairs;
-    let mut matrix = sums(area, shape);
-    let mut i = 0;
-    while i < size {
-        reduce_row(&mut matrix, block, theta, size, i);
-        i += 1;
-    }
+    let mut matrix = sums(area, model.shape);
+    let block = &model.block;
+    let theta = model.theta;
+    change_each(
+        &mut matrix,
+        2 * model.shape.pairs,
+        |i, j, sum| block[i][j] - sum / theta,
+    );
     matrix
 }
 
 // The columns' products with the residual over the free coordinates.
-fn reduced_right(area: &[f64], shape: compact::Shape, theta: f64) -> [f64; 32]
-    requires { Sound shape (length area.now) × Laid shape theta (view area.now shape.n) }
-    ensures { result ≡ right_at shape theta (view area.now shape.n) }
+fn reduced_right(area: &[f64], model: &compact::Model) -> Row
+    requires { Ready model.now area.now }
+    ensures { let h = model.now.shape in result ≡ right_at h model.now.theta (view area.now h.n) }
 {
-    let size = 2 * shape.pairs;
-    let mut right = compact::zeros();
-    let mut i = 0;
-    while i < size {
+    let shape = model.shape;
+    let mut right = [0.0; SIZE];
+    for i in 0..2 * shape.pairs {
         right[i] = free_sum(
             area,
             shape.n,
             compact::column_slot(shape, i),
             area::PRODUCT_D,
         );
-        i += 1;
     }
     right
 }
 
 // The weights of the columns that solve the reduced system, where there are any.
-fn weights(
-    area: &[f64],
-    shape: compact::Shape,
-    theta: f64,
-    block: &[[f64; 32]; 32],
-) -> solve::Answer
-    requires { Sound shape (length area.now) × Modelled shape theta block.now (view area.now shape.n) }
-    ensures { answer_of result ≡ weights_at shape theta (view area.now shape.n) }
+fn weights(area: &[f64], model: &compact::Model) -> Option<Row>
+    requires { Ready model.now area.now }
+    ensures { let h = model.now.shape in result ≡ weights_at h model.now.theta (view area.now h.n) }
 {
-    let matrix = reduced(area, shape, theta, block);
-    let right = reduced_right(area, shape, theta);
-    solve::solve(2 * shape.pairs, matrix, right)
+    let matrix = reduced(area, model);
+    let right = reduced_right(area, model);
+    solve::solve(2 * model.shape.pairs, matrix, right)
 }
 
 // ---- the step over the free coordinates
@@ -352,128 +300,72 @@ fn add_column(area: &mut [f64], n: usize, from: usize, factor: f64)
     requires { (first_pair * n ≤ length area.old) × (from * n + n ≤ length area.old) }
     ensures { view area.new n ≡ rowwise n vector_step (λ (i : ℕ) v. plus (v vector_step) (times (v from) factor)) (view area.old n) }
 {
-    let mut i = 0;
-    while i < n {
-        area[area::STEP * n + i] = area[area::STEP * n + i] + area[from * n + i] * factor;
-        i += 1;
+    for i in 0..n {
+        area[area::STEP * n + i] += area[from * n + i] * factor;
     }
 }
 
 // The step becomes what the columns with the weights add to the residual.
-fn corrections(area: &mut [f64], shape: compact::Shape, theta: f64, weights: [f64; 32])
-    requires { Sound shape (length area.old) × Laid shape theta (view area.old shape.n) }
-    ensures { let v = view area.old shape.n in
-        view area.new shape.n ≡ upd v vector_step (corrections_at shape theta v weights) }
+fn corrections(area: &mut [f64], model: &compact::Model, weights: Row)
+    requires { Ready model.now area.old }
+    ensures { let h = model.now.shape in
+        let v = view area.old h.n in
+        view area.new h.n ≡ upd v vector_step (corrections_at h model.now.theta v weights) }
 {
-    let size = 2 * shape.pairs;
+    let shape = model.shape;
     area::fill(area, shape.n, area::STEP, float::NEG_ZERO);
-    let mut column = 0;
-    while column < size {
+    for column in 0..2 * shape.pairs {
         add_column(
             area,
             shape.n,
             compact::column_slot(shape, column),
             weights[column],
         );
-        column += 1;
     }
 }
 
-// The step at i where there are no pairs: 0 where i is not free.
-fn plain_at(area: &[f64], n: usize, theta: f64, i: usize) -> f64
-    requires { (first_pair * n ≤ length area.now) × (i < n) }
-    ensures { result ≡ plain_in theta (words_at area.now n i) }
+// Each free coordinate's step becomes what `step` makes of its residual and of what stands there, and that of the others 0.
+fn free_steps<F: Fn(f64, f64) -> f64>(area: &mut [f64], n: usize, step: F)
+    requires callable { F.IsAlwaysCallable step }
+    requires room { first_pair * n ≤ length area.old }
+    ensures { (f : Float → Float → Float) → ComputesStep (F.post step) f
+        → view area.new n ≡ rowwise n vector_step (λ (i : ℕ). free_step_in f) (view area.old n) }
 {
-    if is_free(area, n, i) {
-        return -area[area::PRODUCT_D * n + i] / theta;
-    }
-    0.0
-}
-
-// Every step, without pairs.
-fn plain_steps(area: &mut [f64], n: usize, theta: f64)
-    requires { first_pair * n ≤ length area.old }
-    ensures { view area.new n ≡ rowwise n vector_step (λ (i : ℕ). plain_in theta) (view area.old n) }
-{
-    let mut i = 0;
-    while i < n {
-        let value = plain_at(area, n, theta, i);
-        area[area::STEP * n + i] = value;
-        i += 1;
-    }
-}
-
-// The step at i, its correction standing in its place: 0 where i is not free.
-fn weighted_at(area: &[f64], n: usize, theta: f64, i: usize) -> f64
-    requires { (first_pair * n ≤ length area.now) × (i < n) }
-    ensures { result ≡ weighted_in theta (words_at area.now n i) }
-{
-    if is_free(area, n, i) {
-        return -(area[area::PRODUCT_D * n + i] + area[area::STEP * n + i] / theta) / theta;
-    }
-    0.0
-}
-
-// Every step, by its correction.
-fn weighted_steps(area: &mut [f64], n: usize, theta: f64)
-    requires { first_pair * n ≤ length area.old }
-    ensures { view area.new n ≡ rowwise n vector_step (λ (i : ℕ). weighted_in theta) (view area.old n) }
-{
-    let mut i = 0;
-    while i < n {
-        let value = weighted_at(area, n, theta, i);
-        area[area::STEP * n + i] = value;
-        i += 1;
+    for i in 0..n {
+        area[area::STEP * n + i] = if coordinate_at(area, n, i).is_free() {
+            step(area[area::PRODUCT_D * n + i], area[area::STEP * n + i])
+        } else {
+            0.0
+        };
     }
 }
 
 // The steps, by the reduced system's weights where there are pairs.
-fn steps(area: &mut [f64], shape: compact::Shape, theta: f64, block: &[[f64; 32]; 32]) -> bool
-    requires { Sound shape (length area.old) × Modelled shape theta block.now (view area.old shape.n) }
-    ensures { let v = view area.old shape.n in Makes vector_step (steps_at shape theta v) v result (view area.new shape.n) }
+fn steps(area: &mut [f64], model: &compact::Model) -> bool
+    requires { Ready model.now area.old }
+    ensures { let h = model.now.shape in
+        let v = view area.old h.n in
+        Makes vector_step (steps_at h model.now.theta v) v result (view area.new h.n) }
 {
-    if shape.pairs == 0 {
-        plain_steps(area, shape.n, theta);
+    let n = model.shape.n;
+    let theta = model.theta;
+    if model.shape.pairs == 0 {
+        free_steps(area, n, |residual, _| -residual / theta);
         return true;
     }
-    let answer = weights(area, shape, theta, block);
-    if !answer.ok {
+    let Some(weights) = weights(area, model) else {
         return false;
-    }
-    let weights = answer.x;
-    corrections(area, shape, theta, weights);
-    weighted_steps(area, shape.n, theta);
+    };
+    corrections(area, model, weights);
+    free_steps(
+        area,
+        n,
+        |residual, correction| -(residual + correction / theta) / theta,
+    );
     true
 }
 
 // ---- the target
-
-// How far coordinate i, which is free, lets the step go.
-fn shortened(area: &[f64], n: usize, i: usize, alpha: f64) -> f64
-    requires { (first_pair * n ≤ length area.now) × (i < n) }
-    ensures { result ≡ shortened_in (words_at area.now n i) alpha }
-{
-    let x = area[area::CAUCHY * n + i];
-    let step = area[area::STEP * n + i];
-    if 0.0 < step {
-        return float::min(alpha, (area[area::UPPER * n + i] - x) / step);
-    }
-    if step < 0.0 {
-        return float::min(alpha, (area[area::LOWER * n + i] - x) / step);
-    }
-    alpha
-}
-
-// What coordinate i leaves of alpha.
-fn share_at(area: &[f64], n: usize, i: usize, alpha: f64) -> f64
-    requires { (first_pair * n ≤ length area.now) × (i < n) }
-    ensures { result ≡ share_in (words_at area.now n i) alpha }
-{
-    if is_free(area, n, i) {
-        return shortened(area, n, i, alpha);
-    }
-    alpha
-}
 
 // The share of the step that keeps every free coordinate within its bounds.
 fn share(area: &[f64], n: usize) -> f64
@@ -481,26 +373,10 @@ fn share(area: &[f64], n: usize) -> f64
     ensures { result ≡ share_at n (view area.now n) }
 {
     let mut alpha = 1.0;
-    let mut i = 0;
-    while i < n {
-        alpha = share_at(area, n, i, alpha);
-        i += 1;
+    for i in 0..n {
+        alpha = coordinate_at(area, n, i).share(area[area::STEP * n + i], alpha);
     }
     alpha
-}
-
-// Word i of the target.
-fn moved_at(area: &[f64], n: usize, alpha: f64, i: usize) -> f64
-    requires { (first_pair * n ≤ length area.now) × (i < n) }
-    ensures { result ≡ moved_in alpha (words_at area.now n i) }
-{
-    let x = area[area::CAUCHY * n + i];
-    if is_free(area, n, i) {
-        let low = area[area::LOWER * n + i];
-        let high = area[area::UPPER * n + i];
-        return float::clamp(x + alpha * area[area::STEP * n + i], low, high);
-    }
-    x
 }
 
 // The target: the Cauchy point, its free coordinates moved by alpha times the step and brought into the box.
@@ -508,11 +384,11 @@ fn moved(area: &mut [f64], n: usize, alpha: f64) -> bool
     requires { first_pair * n ≤ length area.old }
     ensures { Makes vector_target (moved_at n (view area.old n) alpha) (view area.old n) result (view area.new n) }
 {
-    let mut i = 0;
-    while i < n {
-        let value = moved_at(area, n, alpha, i);
-        area[area::TARGET * n + i] = value;
-        i += 1;
+    for i in 0..n {
+        area[area::TARGET * n + i] = coordinate_at(area, n, i).moved(
+            area[area::STEP * n + i],
+            alpha,
+        );
     }
     area::all_finite(area, n, area::TARGET)
 }
@@ -525,85 +401,61 @@ fn moved_by(area: &mut [f64], n: usize) -> bool
     if !area::all_finite(area, n, area::STEP) {
         return false;
     }
-    let alpha = share(area, n);
-    moved(area, n, alpha)
+    moved(area, n, share(area, n))
 }
 
 // The target where a coordinate is free.
-fn on_free(
-    area: &mut [f64],
-    shape: compact::Shape,
-    theta: f64,
-    block: &[[f64; 32]; 32],
-    found: bool,
-    rows: &[[f64; 32]; 32],
-    multipliers: &[[f64; 32]; 32],
-    order: &[usize; 32],
-) -> bool
-    requires { Sound shape (length area.old) × Modelled shape theta block.now (view area.old shape.n)
-        × Prepared shape theta found rows.now multipliers.now order.now (view area.old shape.n) }
-    ensures { let v = view area.old shape.n in Makes vector_target (on_free_at shape theta v) v result (view area.new shape.n) }
+fn on_free(area: &mut [f64], model: &compact::Model) -> bool
+    requires { Ready model.now area.old }
+    ensures { let h = model.now.shape in
+        let v = view area.old h.n in
+        Makes vector_target (on_free_at h model.now.theta v) v result (view area.new h.n) }
 {
-    let found = residual(area, shape, theta, found, rows, multipliers, order);
-    if !found {
+    if !residual(area, model) {
         return false;
     }
-    let made = steps(area, shape, theta, block);
-    if !made {
+    if !steps(area, model) {
         return false;
     }
-    moved_by(area, shape.n)
+    moved_by(area, model.shape.n)
 }
 
 // `primal_minimize`: the minimum over the free coordinates of the Cauchy point becomes the target; false where there is none.
-pub fn primal_minimize(
-    area: &mut [f64],
-    shape: compact::Shape,
-    theta: f64,
-    block: &[[f64; 32]; 32],
-    found: bool,
-    rows: &[[f64; 32]; 32],
-    multipliers: &[[f64; 32]; 32],
-    order: &[usize; 32],
-) -> bool
-    requires { Sound shape (length area.old) × Modelled shape theta block.now (view area.old shape.n)
-        × Prepared shape theta found rows.now multipliers.now order.now (view area.old shape.n) }
-    ensures { let v = view area.old shape.n in Minimizes (minimum_at shape theta v) v result (view area.new shape.n) }
+// Kept: the target stands in the lent area, so a bool says whether there is one.
+pub fn primal_minimize(area: &mut [f64], model: &compact::Model) -> bool
+    requires { Ready model.now area.old }
+    ensures { let h = model.now.shape in
+        let v = view area.old h.n in
+        Minimizes (minimum_at h model.now.theta v) v result (view area.new h.n) }
 {
-    if any_free(area, shape.n) {
-        return on_free(area, shape, theta, block, found, rows, multipliers, order);
+    let n = model.shape.n;
+    if any_free(area, n) {
+        return on_free(area, model);
     }
-    area::copy(area, shape.n, area::TARGET, area::CAUCHY);
+    area::copy(area, n, area::TARGET, area::CAUCHY);
     true
 }
 
 // ---- the end of the direction
 
 // The target, unless it lies uphill. A slope that is no number keeps the target.
+// Kept: the direction's end is a function of two lent slices.
 fn end<'a>(target: &'a [f64], cauchy: &'a [f64], slope: f64) -> &'a [f64]
     ensures { result.now ≡ cond (Ieee.le zero64 slope) cauchy.now target.now }
 {
     if 0.0 <= slope { cauchy } else { target }
 }
 
-// Zeros, one for each coordinate that there may be.
-fn zeros() -> [f64; problem::MOST_COORDINATES]
-    ensures { result ≡ replicate most_coordinates zero64 }
-{
-    [0.0; problem::MOST_COORDINATES]
-}
-
 // The words of `left` less those of `right`, zeros behind them.
+// Kept: the loop over the index is plainer than two zips of three slices.
 fn difference(left: &[f64], right: &[f64]) -> [f64; problem::MOST_COORDINATES]
     requires { (length left.now ≤ most_coordinates) × (length right.now ≡ length left.now) }
     ensures { result ≡ difference_array (length left.now) left.now right.now }
 {
     let n = left.len();
-    let mut result = zeros();
-    let mut i = 0;
-    while i < n {
+    let mut result = [0.0; problem::MOST_COORDINATES];
+    for i in 0..n {
         result[i] = left[i] - right[i];
-        i += 1;
     }
     result
 }

@@ -3,7 +3,7 @@ use Prim.Native.Nat.{ℕ, ◌≤◌}
 use mathlib.Core.Path.{◌≡◌, refl, sym, ap, ◌∙◌, subst}
 use mathlib.Core.Bool.{Bool, true, false, cond}
 use mathlib.Core.List.{List}
-use mathlib.Core.Option.{none}
+use Rattle.std.specs.Prelude.{None, Result, Ok, Err}
 use native.Mathlib.Omega.{arith}
 use borrow.Author.Tests.{le-ltb}
 use lib.ListN.{length}
@@ -17,29 +17,26 @@ use Rattle.definition.specs.History as H
 use Rattle.definition.specs.History.{Call, refused_by}
 use Rattle.definition.specs.Programs.{input_coordinates, Printed, printed_fit, printed_of, printed, read_input}
 use Rattle.problem.specs.declared.Refusal.{Refusal}
+use Rattle.problem.specs.Setups.{refusal_of}
 use Rattle.fit.specs.declared.Fit.{Fit}
+use Rattle.question.specs.declared.Outcome.{Outcome}
 use Rattle.held.proofs.Test.{ready_facts, held_ready}
 use Rattle.lbfgsb.specs.Words.{Words, words, machine_in, Held}
 use Rattle.lbfgsb.specs.Bridge.{told}
 use Rattle.lbfgsb.specs.Did.{Read}
 use Rattle.lbfgsb.specs.Table.{report_answer}
-use Rattle.lbfgsb.specs.declared.Answer.{Answer}
-use Rattle.lbfgsb.specs.declared.Answer.TheVariants as A
-use Rattle.lbfgsb.specs.declared.Told.{Told}
-use Rattle.lbfgsb.specs.declared.Told.TheVariants as T
 use Rattle.input.specs.Input.{Taken}
-use Rattle.text.specs.Puts.{printed_as}
 
 -- ---- a refusal
 
-refused_go : (z : Reading) (c : Refusal) (a : List Float) (l : List ℕ) → Taken z (A.Refused c) a l → printed_of z ≡ Printed.refused c.number
+refused_go : (z : Reading) (c : Refusal) (a : List Float) (l : List ℕ) → Taken z (Err c) a l → printed_of z ≡ Printed.refused (refusal_of c).number
 refused_go (Reading.accepted b) c a l h = absurd h
 refused_go (Reading.refused k) c a l h = ap (λ (r : P.Refusal). Printed.refused r.number) (sym h)
 refused_go (Reading.refused_at_entry k) c a l h = ap (λ (r : P.Refusal). Printed.refused r.number) (sym h)
 
-pub refused_printed : (bs : List ℕ) (r : Answer) (c : Refusal) (a : List Float) (l : List ℕ) → Taken (read_input bs) r a l → r ≡ A.Refused c
-    → Printed.refused c.number ≡ printed bs
-refused_printed bs r c a l h e = sym (refused_go (read_input bs) c a l (subst (λ (x : Answer). Taken (read_input bs) x a l) e h))
+pub refused_printed : (bs : List ℕ) (r : Result Fit Refusal) (c : Refusal) (a : List Float) (l : List ℕ) → Taken (read_input bs) r a l → r ≡ Err c
+    → Printed.refused (refusal_of c).number ≡ printed bs
+refused_printed bs r c a l h e = sym (refused_go (read_input bs) c a l (subst (λ (x : Result Fit Refusal). Taken (read_input bs) x a l) e h))
 
 -- ---- a fit
 
@@ -47,7 +44,7 @@ held_n : {w : Words} {b : Book} → Held w b → w.state.shape.n ≤ input_coord
 held_n {w} h = omega (arith, (ready_facts w.state (length w.area) (held_ready w.state w.area h.stands.test)).ready)
 
 -- an answer to the report's call
-abbrev answered : H.Answer → Printed
+abbrev pub answered : H.Answer → Printed
 answered (H.Answer.refused r) = Printed.refused r.number
 answered H.Answer.done = Printed.refused 0
 answered (H.Answer.asked q) = Printed.refused 0
@@ -56,12 +53,8 @@ answered (H.Answer.counted k) = Printed.refused 0
 answered (H.Answer.entered ws) = Printed.refused 0
 answered (H.Answer.saved bs) = Printed.refused 0
 
-answered_told : (t : Told) (n : ℕ) (x : List Float) → printed_as t n x ≡ answered (told t n x)
-answered_told (T.Is o) n x = refl
-answered_told (T.Refused c) n x = refl
-
 reported : (u : Bool) (r : M.Report)
-    → answered (refused_by (when u (refuse 15 0 0) then none) (H.Answer.reported r)) ≡ cond u (Printed.refused 15) (Printed.lines r)
+    → answered (refused_by (when u (refuse 15 0 0) then None) (H.Answer.reported r)) ≡ cond u (Printed.refused 15) (Printed.lines r)
 reported true r = refl
 reported false r = refl
 
@@ -70,15 +63,15 @@ held_answered w b h =
     rw (h.stands.test, le-ltb input_coordinates w.state.shape.n (held_n h))
     (reported (M.unreported (machine_in w).phase) (M.report_now (machine_in w)) ∙ ap printed_fit h.stands.is)
 
-fit_go : (z : Reading) (f : Fit) (a : List Float) (l : List ℕ) (t : Told) (x : List Float) → Taken z (A.Kept f) a l
-    → told t f.shape.n x ≡ report_answer (words f a l) input_coordinates → (f.shape.n ≤ input_coordinates) × (printed_as t f.shape.n x ≡ printed_of z)
-fit_go (Reading.accepted b) f a l t x h e = (held_n h, answered_told t f.shape.n x ∙ ap answered e ∙ held_answered (words f a l) b h)
+fit_go : (z : Reading) (f : Fit) (a : List Float) (l : List ℕ) (t : Result Outcome Refusal) (x : List Float) → Taken z (Ok f) a l
+    → told t f.shape.n x ≡ report_answer (words f a l) input_coordinates → (f.shape.n ≤ input_coordinates) × (answered (told t f.shape.n x) ≡ printed_of z)
+fit_go (Reading.accepted b) f a l t x h e = (held_n h, ap answered e ∙ held_answered (words f a l) b h)
 fit_go (Reading.refused k) f a l t x h e = absurd h
 fit_go (Reading.refused_at_entry k) f a l t x h e = absurd h
 
-pub fit_printed : (bs : List ℕ) (r : Answer) (f : Fit) (a : List Float) (l : List ℕ) (t : Told) (x x' : List Float) → Taken (read_input bs) r a l
-    → r ≡ A.Kept f → length x ≡ input_coordinates
+pub fit_printed : (bs : List ℕ) (r : Result Fit Refusal) (f : Fit) (a : List Float) (l : List ℕ) (t : Result Outcome Refusal) (x x' : List Float) → Taken (read_input bs) r a l
+    → r ≡ Ok f → length x ≡ input_coordinates
     → ((m : List ℕ) → Read (Call.report (length x)) (words f a m) (told t f.shape.n x') x x')
-    → (f.shape.n ≤ input_coordinates) × (printed_as t f.shape.n x' ≡ printed bs)
+    → (f.shape.n ≤ input_coordinates) × (answered (told t f.shape.n x') ≡ printed bs)
 fit_printed bs r f a l t x x' h e k d =
-    fit_go (read_input bs) f a l t x' (subst (λ (y : Answer). Taken (read_input bs) y a l) e h) ((d l).always ∙ ap (report_answer (words f a l)) k)
+    fit_go (read_input bs) f a l t x' (subst (λ (y : Result Fit Refusal). Taken (read_input bs) y a l) e h) ((d l).always ∙ ap (report_answer (words f a l)) k)

@@ -1,60 +1,122 @@
--- Laws of runs of bytes put one behind the other, and of the digits of a number. Assumes nothing.
+-- What std prints of a number is what the definition says; the lines of a report. Assumes nothing.
 use Prim.Native.Nat.{ℕ, zero, suc, ◌+◌, ◌-◌, ◌*◌, ◌/◌, ◌%◌, ◌^◌, ◌≤◌, ◌<◌}
 use mathlib.Core.Path.{◌≡◌, refl, sym, ap, ◌∙◌}
+use mathlib.Core.Bool.{Bool, true, false}
 use mathlib.Core.List.{List, [], ◌∷◌, ◌++◌, append-nil, append_assoc}
 use native.Mathlib.Numerals.{add-one}
 use native.Mathlib.Omega.{arith}
-use native.Mathlib.Nat.{pow-le-pow_right}
-use borrow.Author.Tests.{lt-ltb, le-ltb}
+use borrow.Author.Tests.{lt-ltb, le-ltb, eqb-true, eqb-false}
+use lib.Dec.{eqb}
 use lib.Seq.{take-suc}
 use lib.Ieee.{Float}
-use lib.ListN.{length, get_or, take, drop, length-append, take-append-drop}
-use Rattle.io.specs.Digits.{hex_digit_ascii, last_digits, IsDigitCount}
-use Rattle.question.specs.Reports.{written}
-use Rattle.record.proofs.Words.{put, put-append}
-use Rattle.accept.proofs.Laws.{Copied, copied_done}
-use Rattle.text.specs.Text.{decimal_to, decimal, hexadecimal, newline, x_word, float_line, point_lines}
-use Rattle.text.specs.Puts.{Puts}
+use lib.ListN.{length, get_or, take, replicate, length-append}
+use Rattle.std.specs.Fmt as F
+use Rattle.std.specs.Fmt.{digits, digits_onto, digit_glyph, char_count, padded_integral, format_spec}
+use Rattle.std.proofs.lemmas.Fmt.{AppendsLastDigit, decimal_from_appends, length-decimal-le, length-decimal-le_succ}
+use Rattle.std.proofs.lemmas.Grind.{replicate_next}
+use Rattle.io.specs.Digits.{hex_digit_ascii, last_digits}
+use Rattle.definition.specs.Number.{to_word}
+use Rattle.question.specs.Reports.{report_of, status_in}
+use Rattle.question.specs.declared.Outcome.{Outcome}
+use Rattle.counters.specs.declared.Termination.{Termination}
+use Rattle.counters.specs.declared.Termination.TheVariants.{GTol, FTol, MaxIterations, MaxEvaluations, Cancelled}
+use Rattle.counters.specs.declared.Termination.TheVariants.{Nonfinite, LineSearchFailed, ObjectiveFailed}
+use Rattle.std.specs.Prelude.{Option, None, Some}
+use Rattle.text.specs.Text.{decimal_to, decimal, hexadecimal, status_word, nit_word, nfev_word, njev_word, fun_word, x_word, newline}
+use Rattle.text.specs.Text.{count_line, float_line, point_lines, report_lines}
+use Rattle.text.specs.Text.{refused_word, text_of}
+use Rattle.definition.specs.Programs.{Printed}
+use Rattle.problem.specs.Setups.{refusal_of}
+use Rattle.problem.specs.declared.Refusal.{Refusal}
+use Rattle.problem.specs.declared.Refusal.TheVariants as R
 
--- ---- runs of bytes
+-- ---- `{}`
 
-pub puts_copied : {s : List ℕ} {at : ℕ} {out out' : List ℕ} {i : ℕ} → Copied out s at out' i → length s ≤ i → at + length s ≤ length out
-    → Puts s (length s) at out (at + length s) out'
-puts_copied h k b = record { short = omega arith; within = b; ends = refl; sized = h.long; is = copied_done h k }
+up_to : ℕ → ℕ → List ℕ
+up_to zero n = []
+up_to (suc k) n = decimal_to k n
 
--- nothing
-pub puts_none : (at : ℕ) (out : List ℕ) → at ≤ length out → Puts [] 0 at out at out
-puts_none at out h =
-    let e : at + 0 ≡ at = omega arith in
-    record { short = omega arith; within = omega arith; ends = omega arith; sized = refl; is = rw (e, append-nil) (sym (take-append-drop at out)) }
+appends : AppendsLastDigit up_to
+unfolding up_to decimal_to
+appends = record { one = one; more = more }
+  where
+    digit : (n : ℕ) → hex_digit_ascii (n % 10) ≡ 48 + n % 10
+    digit n = rw (lt-ltb (n % 10) 10 (omega arith)) refl
 
--- one run behind the other
-pub puts_both : {a b : List ℕ} {p q at : ℕ} {o o' o'' : List ℕ} {r r' : ℕ} → Puts a p at o r o' → Puts b q r o' r' o'' → Puts (a ++ b) (p + q) at o r' o''
-puts_both {a} {b} {p} {q} {at} {o} {o'} {o''} {r} {r'} x y =
-    let w : at + length a + length b ≤ length o = omega (arith, x.ends, x.sized, y.within) in
-    record {
-      short = rw length-append (omega (arith, x.short, y.short));
-      within = rw length-append (omega arith);
-      ends = rw length-append (omega (arith, x.ends, y.ends));
-      sized = y.sized ∙ x.sized;
-      is = y.is ∙ ap (λ (k : ℕ). put o' k b) x.ends ∙ put-append o o' at a b w x.is;
-    }
+    one : (k n : ℕ) → n < 10 → decimal_to k n ≡ (48 + n) ∷ []
+    one zero n h = let same : n % 10 ≡ n = omega arith in rw (digit n, same) refl
+    one (suc k) n h = let same : n % 10 ≡ n = omega arith in rw (lt-ltb n 10 h, digit n, same) refl
 
--- by another name, and under another bound
-pub puts_as : {a b : List ℕ} {p q at : ℕ} {o o' : List ℕ} {r : ℕ} → a ≡ b → p ≤ q → Puts a p at o r o' → Puts b q at o r o'
-puts_as {a} {b} {p} {q} {at} {o} {o'} {r} e h x =
-    rw (← e) (record { short = omega (arith, x.short); within = x.within; ends = x.ends; sized = x.sized; is = x.is })
+    more : (k n : ℕ) → 10 ≤ n → decimal_to k n ≡ up_to k (n / 10) ++ ((48 + n % 10) ∷ [])
+    more zero n h = rw (digit n) refl
+    more (suc k) n h = rw (le-ltb n 10 h, digit n) refl
 
--- from the front of a slice
-pub puts_written : {a : List ℕ} {p : ℕ} {o o' : List ℕ} {r : ℕ} → Puts a p 0 o r o' → (r ≡ length a) × (o' ≡ written a o) × (r ≤ length o')
-puts_written {a} {p} {o} {o'} {r} x =
-    let e : 0 + length a ≡ length a = omega arith in
-    (x.ends ∙ e, x.is ∙ ap (λ (k : ℕ). a ++ drop k o) e, omega (arith, x.ends, x.within, x.sized))
+pub decimal_is : (n : ℕ) → n < 2 ^ 64 → F.decimal n ≡ decimal n
+unfolding up_to decimal
+decimal_is n h = sym (decimal_from_appends up_to appends (suc n) n h (omega (arith, length-decimal-le_succ n h)))
 
--- a name, what is to its right, and the end of the line
-pub puts_line : {name value : List ℕ} {p q most at : ℕ} {o o' o'' z : List ℕ} {r s e : ℕ} → p + q + 1 ≤ most
-    → Puts name p at o r o' → Puts value q r o' s o'' → Puts newline 1 s o'' e z → Puts (name ++ value ++ newline) most at o e z
-puts_line h x y z = puts_as refl h (puts_both (puts_both x y) z)
+-- ---- `{:016x}`
+
+zeros : (k : ℕ) → last_digits 16 k 0 ≡ replicate k 48
+zeros zero = refl
+zeros (suc k) = ap (λ (ds : List ℕ). ds ++ (48 ∷ [])) (zeros k) ∙ sym (replicate_next k 48) ∙ ap (λ (m : ℕ). replicate m 48) (add-one k)
+
+-- with zeros to the left the digits are as many as asked for
+module _ (n : ℕ) (acc : List ℕ) where
+  abbrev Padded : ℕ → ℕ → Type 0
+  Padded k j =
+      replicate (suc j + length acc - length (digits_onto (suc k) 16 false n acc)) 48 ++ digits_onto (suc k) 16 false n acc ≡ last_digits 16 (suc j) n ++ acc
+
+  last : (k j : ℕ) → eqb (n / 16) 0 ≡ true → Padded k j
+  last k j e =
+      let fewer : suc j + length acc - suc (length acc) ≡ j = omega arith in
+      rw (e, eqb-true _ _ e, fewer, zeros j)
+      (sym (append_assoc (replicate j 48) (digit_glyph false (n % 16) ∷ []) acc))
+
+  step : (k j : ℕ) → eqb (n / 16) 0 ≡ false
+      → replicate (suc j + suc (length acc) - length (digits_onto (suc k) 16 false (n / 16) (digit_glyph false (n % 16) ∷ acc))) 48
+      ++ digits_onto (suc k) 16 false (n / 16) (digit_glyph false (n % 16) ∷ acc) ≡ last_digits 16 (suc j) (n / 16) ++ (digit_glyph false (n % 16) ∷ acc)
+      → Padded (suc k) (suc j)
+  step k j e h =
+      let more : suc (suc j) + length acc ≡ suc j + suc (length acc) = omega arith in
+      rw (e, more) (h ∙ sym (append_assoc (last_digits 16 (suc j) (n / 16)) (digit_glyph false (n % 16) ∷ []) acc))
+
+padded : (k j n : ℕ) (acc : List ℕ) (t : Bool) → eqb (n / 16) 0 ≡ t → j ≤ k → n < 16 ^ suc j → Padded n acc k j
+padded k j n acc true e l h = last n acc k j e
+padded k zero n acc false e l h = absurd (eqb-false _ _ e (omega arith))
+padded zero (suc j) n acc false e l h = absurd (omega arith)
+padded (suc k) (suc j) n acc false e l h = step n acc k j e (padded k j (n / 16) (digit_glyph false (n % 16) ∷ acc) _ refl (omega arith) (omega arith))
+
+sixteen : (ds : List ℕ) → padded_integral (format_spec 32 0 4 16 (2 ^ 64 - 1)) false [] ds ≡ replicate (16 - length ds) 48 ++ ds
+unfolding padded_integral char_count
+sixteen ds =
+    let short : 16 - length ds - 0 - 0 ≡ 16 - length ds = omega arith in
+    rw (append-nil ds, short) refl
+
+pub hexadecimal_is : (n : ℕ) → n < 2 ^ 64 → padded_integral (format_spec 32 0 4 16 (2 ^ 64 - 1)) false [] (digits 16 false n) ≡ hexadecimal n
+unfolding digits hexadecimal
+hexadecimal_is n h = sixteen (digits 16 false n) ∙ padded 63 15 n [] _ refl (omega arith) h ∙ append-nil (last_digits 16 16 n)
+
+-- ---- lines
+
+pub counted : (name : List ℕ) (n : ℕ) → n < 2 ^ 64 → name ++ (F.decimal n ++ newline) ≡ count_line name n
+unfolding count_line
+counted name n h = rw (decimal_is n h) (sym (append_assoc name (decimal n) newline))
+
+valued : (name : List ℕ) (x : Float) → name ++ (hexadecimal (to_word x) ++ newline) ≡ float_line name x
+unfolding float_line
+valued name x = sym (append_assoc name (hexadecimal (to_word x)) newline)
+
+five : {a b c d e a' b' c' d' e' : List ℕ} → a ≡ a' → b ≡ b' → c ≡ c' → d ≡ d' → e ≡ e' → a ++ (b ++ (c ++ (d ++ e))) ≡ a' ++ b' ++ c' ++ d' ++ e' ++ []
+five p q r s t = rw (p, q, r, s, t) (simp (append_assoc, append-nil) refl)
+
+pub header : (o : Outcome) (s : ℕ) → s ≡ status_in o.termination → s < 2 ^ 64 → o.nit < 2 ^ 64 → o.nfev < 2 ^ 64 → o.njev < 2 ^ 64
+    → (status_word ++ (F.decimal s ++ newline)) ++ ((nit_word ++ (F.decimal o.nit ++ newline)) ++ ((nfev_word ++ (F.decimal o.nfev ++ newline))
+    ++ ((njev_word ++ (F.decimal o.njev ++ newline)) ++ (fun_word ++ (hexadecimal (to_word o.value) ++ newline)))))
+    ≡ report_lines (report_of o [])
+unfolding report_lines point_lines
+header o s e p q r k =
+    five (counted status_word s p ∙ ap (count_line status_word) e) (counted nit_word o.nit q) (counted nfev_word o.nfev r) (counted njev_word o.njev k) (valued fun_word o.value)
 
 point_more : (x : List Float) (v : Float) → point_lines (x ++ (v ∷ [])) ≡ point_lines x ++ float_line x_word v
 unfolding point_lines
@@ -63,88 +125,81 @@ point_more (w ∷ x) v =
     ap (λ (t : List ℕ). float_line x_word w ++ t) (point_more x v)
     ∙ sym (append_assoc (float_line x_word w) (point_lines x) (float_line x_word v))
 
--- a line for each of the first i coordinates
-pub record Pointed (x : List Float) (n at : ℕ) (o : List ℕ) (e : ℕ) (o' : List ℕ) (i : ℕ) : Type 0 where
-  pub upto : i ≤ n
-  pub puts : Puts (point_lines (take i x)) (25 * i) at o e o'
+pub more : (o : Outcome) (x : List Float) (i : ℕ) (d : Float) → i < length x
+    → report_lines (report_of o (take i x)) ++ (x_word ++ (hexadecimal (to_word (get_or x i d)) ++ newline)) ≡ report_lines (report_of o (take (i + 1) x))
+unfolding report_lines
+more o x i d h = rw (add-one, take-suc x i d h, point_more, valued) (append_assoc _ (point_lines (take i x)) _)
 
-pub pointed_none : (x : List Float) (n at : ℕ) (o : List ℕ) → at ≤ length o → Pointed x n at o at o 0
+-- ---- lengths
+
+count_short : (name : List ℕ) (n : ℕ) → n < 2 ^ 64 → length (count_line name n) ≤ length name + 21
+unfolding count_line
+count_short name n h =
+    rw (← decimal_is n h, length-append (name ++ F.decimal n) newline, length-append name (F.decimal n))
+    (omega (arith, length-decimal-le 20 n (omega arith) (omega arith) h))
+
+digits_count : (k n : ℕ) → length (last_digits 16 k n) ≡ k
+digits_count zero n = refl
+digits_count (suc k) n =
+    length-append (last_digits 16 k (n / 16)) (hex_digit_ascii (n % 16) ∷ []) ∙ ap (λ (j : ℕ). j + 1) (digits_count k (n / 16)) ∙ add-one k
+
+float_length : (name : List ℕ) (x : Float) → length (float_line name x) ≡ length name + 17
+unfolding float_line hexadecimal
+float_length name x =
+    let digits = last_digits 16 16 (to_word x) in
+    rw (length-append (name ++ digits) newline, length-append name digits, digits_count 16 (to_word x)) (omega arith)
+
+points_length : (x : List Float) → length (point_lines x) ≡ 19 * length x
 unfolding point_lines
-pointed_none x n at o h = record { upto = omega arith; puts = puts_none at o h }
+points_length [] = refl
+points_length (v ∷ x) = rw (length-append (float_line x_word v) (point_lines x), float_length x_word v, points_length x) (omega arith)
 
-pub pointed_more : {x : List Float} {n at : ℕ} {o o' o'' : List ℕ} {e e' i : ℕ} (d : Float) → Pointed x n at o e o' i → i < n → n ≤ length x
-    → Puts (float_line x_word (get_or x i d)) 25 e o' e' o'' → Pointed x n at o e' o'' (i + 1)
-pointed_more {x} {i = i} d h l b y = record {
-  upto = omega arith;
-  puts =
-      puts_as (sym (ap point_lines (ap (λ (k : ℕ). take k x) (add-one i) ∙ take-suc x i d (omega arith)) ∙ point_more (take i x) (get_or x i d))) (omega arith)
-      (puts_both h.puts y);
-}
+number_few : (c : Refusal) → (refusal_of c).number < 2 ^ 64
+number_few R.EmptyX0 = omega arith
+number_few (R.NonfiniteX0 i) = omega arith
+number_few (R.BoundsLength i j) = omega arith
+number_few (R.NanBound i) = omega arith
+number_few (R.BoundsOrder i) = omega arith
+number_few (R.InfeasibleBound i) = omega arith
+number_few (R.NotPositive i) = omega arith
+number_few (R.NotFinitePositive i) = omega arith
+number_few (R.NotFiniteNonnegative i) = omega arith
+number_few (R.OverLimit i) = omega arith
+number_few (R.AreaShort i) = omega arith
+number_few R.LogShort = omega arith
+number_few R.NotDue = omega arith
+number_few (R.GradientLength i j) = omega arith
+number_few R.NoReport = omega arith
+number_few R.TooFewReplies = omega arith
+number_few R.Malformed = omega arith
+number_few R.SumsDiffer = omega arith
+number_few (R.OutputShort i) = omega arith
 
-pub pointed_done : {x : List Float} {n at : ℕ} {o o' : List ℕ} {e i : ℕ} → Pointed x n at o e o' i → n ≤ i → Puts (point_lines (take n x)) (25 * n) at o e o'
-pointed_done {x} {n} {at} {o} {o'} {e} {i} h k =
-    let q : i ≡ n = omega (arith, h.upto) in
-    rw q at h.puts
+pub refused_short : (c : Refusal) → length (text_of (Printed.refused (refusal_of c).number)) ≤ 2048
+refused_short c = omega (arith, count_short refused_word (refusal_of c).number (number_few c))
 
--- ---- digits
+status_few : (t : Option Termination) → status_in t < 2 ^ 64
+status_few None = omega arith
+status_few (Some GTol) = omega arith
+status_few (Some FTol) = omega arith
+status_few (Some MaxIterations) = omega arith
+status_few (Some MaxEvaluations) = omega arith
+status_few (Some Cancelled) = omega arith
+status_few (Some Nonfinite) = omega arith
+status_few (Some LineSearchFailed) = omega arith
+status_few (Some ObjectiveFailed) = omega arith
 
-pub digits_count : (b k n : ℕ) → length (last_digits b k n) ≡ k
-digits_count b zero n = refl
-digits_count b (suc k) n = length-append (last_digits b k (n / b)) (hex_digit_ascii (n % b) ∷ []) ∙ ap (λ (j : ℕ). j + 1) (digits_count b k (n / b)) ∙ add-one k
-
--- as few as hold every number below a power
-pub few_digits : (b least n r k : ℕ) → 0 < b → n < b ^ k → least ≤ k → IsDigitCount b least n r → r ≤ k
-few_digits b least n r k p h l w =
-    let no : k < r → ⊥ = λ more. omega (arith, w.2 (omega arith), pow-le-pow_right {n = b} p {i = k} {j = r - 1} (omega arith)) in
-    omega arith
-
-power_above : (k : ℕ) → k < 10 ^ k
-power_above zero = omega arith
-power_above (suc k) = omega (arith, power_above k)
-
-fewest_less : (r n : ℕ) → IsDigitCount 10 1 n (suc (suc r)) → IsDigitCount 10 1 (n / 10) (suc r)
-fewest_less r n w =
-    let e : suc r - 1 ≡ r = omega arith in
-    let q : suc (suc r) - 1 ≡ suc r = omega arith in
-    let least : 10 ^ suc r ≤ n = rw q at (w.2 (omega arith)) in
-    (omega arith, omega (arith, w.1), λ h. rw e (omega arith))
-
--- the fewest digits are those of the definition
-decimal_to_lem : (r f n : ℕ) → r ≤ f + 1 → IsDigitCount 10 1 n r → last_digits 10 r n ≡ decimal_to f n
-unfolding decimal_to
-decimal_to_lem zero f n h w = absurd (omega (arith, w.0))
-decimal_to_lem (suc zero) zero n h w = refl
-decimal_to_lem (suc zero) (suc f) n h w = rw (lt-ltb n 10 (omega (arith, w.1)))
-decimal_to_lem (suc (suc r)) zero n h w = absurd (omega arith)
-decimal_to_lem (suc (suc r)) (suc f) n h w =
-    let q : suc (suc r) - 1 ≡ suc r = omega arith in
-    let least : 10 ^ suc r ≤ n = rw q at (w.2 (omega arith)) in
-    let ten : 10 ≤ n = omega (arith, power_above r) in
-    rw (le-ltb n 10 ten) (ap (λ (d : List ℕ). d ++ (hex_digit_ascii (n % 10) ∷ [])) (decimal_to_lem (suc r) f (n / 10) (omega arith) (fewest_less r n w)))
-
--- there are no more than n + 1
-few : (r n : ℕ) → IsDigitCount 10 1 n r → r ≤ n + 1
-few zero n w = omega arith
-few (suc zero) n w = omega arith
-few (suc (suc r)) n w =
-    let q : suc (suc r) - 1 ≡ suc r = omega arith in
-    let least : 10 ^ suc r ≤ n = rw q at (w.2 (omega arith)) in
-    omega (arith, power_above (suc r))
-
-pub decimal_is : (r n : ℕ) → IsDigitCount 10 1 n r → last_digits 10 r n ≡ decimal n
-unfolding decimal
-decimal_is r n w = decimal_to_lem r n n (few r n w) w
-
-pub hexadecimal_is : (r n : ℕ) → 16 ≤ r → r ≤ 16 → last_digits 16 r n ≡ hexadecimal n
-unfolding hexadecimal
-hexadecimal_is r n l h =
-    let e : r ≡ 16 = omega arith in
-    ap (λ (k : ℕ). last_digits 16 k n) e
-
--- r digits, from the front of an array of `most`
-pub puts_digits : {t : List ℕ} (d : List ℕ) (b n : ℕ) {most r at e : ℕ} {o o' : List ℕ} → last_digits b r n ≡ t → take r d ≡ last_digits b r n → r ≤ most
-    → Puts (take (r - 0) d) (length (take (r - 0) d)) at o e o' → Puts t most at o e o'
-puts_digits d b n {most} {r} p q h x =
-    let z : r - 0 ≡ r = omega arith in
-    let k : take (r - 0) d ≡ last_digits b r n = rw z q in
-    puts_as (k ∙ p) (rw (k, digits_count) h) x
+pub report_short : (o : Outcome) (x : List Float) → o.nit < 2 ^ 64 → o.nfev < 2 ^ 64 → o.njev < 2 ^ 64 → length x ≤ 64
+    → length (text_of (Printed.lines (report_of o x))) ≤ 2048
+unfolding report_lines
+report_short o x q r s h =
+    simp length-append
+    (omega (
+      arith,
+      count_short status_word (status_in o.termination) (status_few o.termination),
+      count_short nit_word o.nit q,
+      count_short nfev_word o.nfev r,
+      count_short njev_word o.njev s,
+      float_length fun_word o.value,
+      points_length x,
+    ))

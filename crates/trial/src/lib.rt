@@ -1,18 +1,18 @@
 // From the point held to a trial: the tests of convergence, the trial point, and the start of the step search.
 #![tactic(auto)]
 
-ghost use Rattle.std.specs.Prelude.{◌≡◌, ◌*◌, ◌≤◌, ◌<◌, length, Float};
+ghost use Rattle.std.specs.Prelude.{◌≡◌, ◌*◌, ◌≤◌, ◌<◌, length, option_map, IfSome, Float};
 ghost use Rattle.definition.specs.Number.{max as max_of};
-ghost use Rattle.definition.specs.Search.{limit_of as limit_on, begin_search, trial_point, or_failed};
+ghost use Rattle.definition.specs.Search.{limit_of as limit_on, begin_search, trial_point};
 ghost use Rattle.definition.specs.Driver.{projected_norm, gradient_small, decrease_small, try_step};
 ghost use Rattle.area.specs.Area.{Vecs, bounds_of, view, upd, words_at, first_pair, vector_x, vector_g, vector_trial, vector_direction};
 ghost use Rattle.compact.specs.State.{Sound};
-ghost use Rattle.search.specs.State.{search_of, limit_of, verdict_of, Settled, VerdictSettled};
+ghost use Rattle.search.specs.State.{search_of, limit_of, Settled};
 ghost use Rattle.fit.specs.State.{machine, machine_of, Steps};
 ghost use Rattle.trial.specs.Words.{trial_in, projected_in, distance_in};
 
 use fit::{Fit, Phase, Place};
-use search::{Limit, Search, Verdict};
+use search::{Limit, Search};
 
 // ---- convergence
 
@@ -38,10 +38,8 @@ fn projected_norm(area: &[f64], n: usize) -> f64
         (record { x = view area.now n vector_x; f = f; g = view area.now n vector_g }) }
 {
     let mut largest = 0.0f64;
-    let mut i = 0;
-    while i < n {
+    for i in 0..n {
         largest = projected_at(area, n, largest, i);
-        i += 1;
     }
     largest
 }
@@ -84,10 +82,8 @@ fn put_trial(area: &mut [f64], n: usize, alpha: f64)
     ensures { view area.new n ≡ upd (view area.old n) vector_trial
         (trial_point n (bounds_of (view area.old n)) (view area.old n vector_x) (view area.old n vector_direction) alpha) }
 {
-    let mut i = 0;
-    while i < n {
+    for i in 0..n {
         area[area::TRIAL * n + i] = trial_at(area, n, alpha, i);
-        i += 1;
     }
 }
 
@@ -97,8 +93,7 @@ pub fn try_step(fit: Fit, area: &mut [f64], search: Search) -> Fit
     ensures { Steps (try_step (search_of search)) fit area.old result area.new }
 {
     put_trial(area, fit.shape.n, search.step.alpha);
-    let mut next = fit;
-    next.search = search;
+    let next = Fit { search, ..fit };
     fit::ask_value(next, Phase::Value(Place::Trial))
 }
 
@@ -129,26 +124,23 @@ fn limit_of(area: &[f64], n: usize) -> Limit
         amax: float::STEP_LIMIT,
         face: false,
     };
-    let mut i = 0;
-    while i < n {
+    for i in 0..n {
         limit = search::limited(distance_at(area, n, i), limit);
-        i += 1;
     }
     limit
 }
 
 // The first trial of a search, unless there is nothing to search.
-pub fn begin_search(area: &[f64], n: usize) -> Verdict
+#[tactic(auto, unfolding(definition::specs::Search::begin_search))]
+pub fn begin_search(area: &[f64], n: usize) -> Option<Search>
     requires { first_pair * n ≤ length area.now }
-    ensures { let v = view area.now n in
-        (verdict_of result ≡ or_failed (begin_search n (bounds_of v) (v vector_x) (v vector_g) (v vector_direction))) × VerdictSettled result }
+    ensures trial { let v = view area.now n in
+        option_map search_of result ≡ begin_search n (bounds_of v) (v vector_x) (v vector_g) (v vector_direction) }
+    ensures settled { IfSome result Settled }
 {
     let slope0 = area::dot(area, n, area::G, area::DIRECTION);
-    if !float::is_finite(slope0) {
-        return Verdict::Failed;
+    if !float::is_finite(slope0) || !(slope0 < 0.0) {
+        return None;
     }
-    if slope0 < 0.0 {
-        return search::with_limit(slope0, limit_of(area, n));
-    }
-    Verdict::Failed
+    search::with_limit(slope0, limit_of(area, n))
 }

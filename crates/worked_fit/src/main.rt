@@ -1,8 +1,8 @@
 // A worked fit through the exported operations: the least of (x - 1)^2 + 10 (y + 1/2)^2 where x is at most 1/2, from (-1, 1).
 #![tactic(auto)]
 
-use lbfgsb::{Answer, Asked, Fit, Options, Outcome, Reply, Told};
-use std::io;
+use lbfgsb::{Fit, Kind, Options, Refusal, Reply, Setup};
+use std::{fmt, io};
 
 // The area's words for 2 coordinates and the 10 pairs of the default.
 const AREA: usize = 552;
@@ -11,9 +11,10 @@ const LOG: usize = 128;
 
 // A box, and the default for everything else.
 fn options() -> Options {
-    let mut o = lbfgsb::no_options();
-    o.bounded = true;
-    o
+    Options {
+        bounded: true,
+        ..lbfgsb::no_options()
+    }
 }
 
 // ---- the objective
@@ -31,28 +32,16 @@ fn gradient(x: f64, y: f64) -> [u64; 2] {
 
 // ---- what is shown
 
-fn word<R: Print>(rt: &R, x: f64) -> io::Result<()> {
-    let w = float::float_to_word(x);
-    print!(rt; " {w:016x}")
-}
+// A point, shown by its words.
+#[derive(Clone, Copy)]
+struct Point(f64, f64);
 
-fn show<R: Print>(rt: &R, label: &str, x: f64, y: f64) -> io::Result<()> {
-    print!(rt; "{label}")?;
-    word(rt, x)?;
-    word(rt, y)?;
-    println!(rt)
-}
-
-fn count<R: Print>(rt: &R, label: &str, n: usize) -> io::Result<()> {
-    println!(rt; "{label}{n}")
-}
-
-fn show_outcome<R: Print>(rt: &R, o: Outcome, x: f64, y: f64) -> io::Result<()> {
-    count(rt, "status ", o.status)?;
-    count(rt, "nit ", o.nit)?;
-    count(rt, "nfev ", o.nfev)?;
-    count(rt, "njev ", o.njev)?;
-    show(rt, "point", x, y)
+impl fmt::Display for Point {
+    fn fmt<W: fmt::Write>(&self, f: &mut fmt::Formatter<W>) -> fmt::Result {
+        let x = float::float_to_word(self.0);
+        let y = float::float_to_word(self.1);
+        write!(f, "{x:016x} {y:016x}")
+    }
 }
 
 // ---- the fit
@@ -63,41 +52,39 @@ fn replied<R: Print>(
     fit: Fit,
     area: &mut [f64],
     log: &mut [u64],
-    kind: usize,
+    kind: Kind,
     x: f64,
     y: f64,
-) -> io::Result<Answer> {
-    let g = gradient(x, y);
-    if kind == 1 {
-        show(rt, "value", x, y)?;
-        return Ok(lbfgsb::reply(fit, area, log, Reply::Value(value(x, y)), &g));
-    }
-    if kind == 2 {
-        show(rt, "gradient", x, y)?;
-        return Ok(lbfgsb::reply(fit, area, log, Reply::Gradient, &g));
-    }
-    show(rt, "notice", x, y)?;
-    Ok(lbfgsb::reply(fit, area, log, Reply::GoOn, &g))
+) -> io::Result<Result<Fit, Refusal>> {
+    let (name, reply) = match kind {
+        Kind::Value => ("value", Reply::Value(value(x, y))),
+        Kind::Gradient => ("gradient", Reply::Gradient),
+        Kind::Notice => ("notice", Reply::GoOn),
+    };
+    println!(rt; "{name} {}", Point(x, y))?;
+    Ok(lbfgsb::reply(fit, area, log, reply, &gradient(x, y)))
 }
 
 // The fit after one question and its reply; refused where nothing is asked.
-fn turn<R: Print>(rt: &R, fit: Fit, area: &mut [f64], log: &mut [u64]) -> io::Result<Answer> {
+fn turn<R: Print>(
+    rt: &R,
+    fit: Fit,
+    area: &mut [f64],
+    log: &mut [u64],
+) -> io::Result<Result<Fit, Refusal>> {
     let mut point = [0.0f64; 2];
-    let asked = lbfgsb::question(fit, area, &mut point);
-    let Asked::Is(kind) = asked else {
-        return Ok(lbfgsb::reply(fit, area, log, Reply::Stop, &[0u64; 1]));
-    };
-    replied(rt, fit, area, log, kind, point[0], point[1])
+    match lbfgsb::question(fit, area, &mut point) {
+        Ok(Some(kind)) => replied(rt, fit, area, log, kind, point[0], point[1]),
+        Ok(None) => Ok(Err(Refusal::NotDue)),
+        Err(refusal) => Ok(Err(refusal)),
+    }
 }
 
 // Question after question until there is none, or a hundred of them.
 fn fitted<R: Print>(rt: &R, first: Fit, area: &mut [f64], log: &mut [u64]) -> io::Result<Fit> {
     let mut fit = first;
-    let mut turns = 100usize;
-    while turns > 0 {
-        turns -= 1;
-        let answer = turn(rt, fit, area, log)?;
-        let Answer::Kept(next) = answer else {
+    for _ in 0..100 {
+        let Ok(next) = turn(rt, fit, area, log)? else {
             return Ok(fit);
         };
         fit = next;
@@ -107,21 +94,26 @@ fn fitted<R: Print>(rt: &R, first: Fit, area: &mut [f64], log: &mut [u64]) -> io
 
 fn report<R: Print>(rt: &R, fit: Fit, area: &[f64]) -> io::Result<()> {
     let mut point = [0.0f64; 2];
-    let told = lbfgsb::report(fit, area, &mut point);
-    let Told::Is(o) = told else {
+    let Ok(outcome) = lbfgsb::report(fit, area, &mut point) else {
         return Ok(());
     };
-    show_outcome(rt, o, point[0], point[1])
+    println!(rt; "status {}", outcome.status())?;
+    println!(rt; "nit {}", outcome.nit)?;
+    println!(rt; "nfev {}", outcome.nfev)?;
+    println!(rt; "njev {}", outcome.njev)?;
+    println!(rt; "point {}", Point(point[0], point[1]))
 }
 
 fn main(rt: HostRuntime) -> io::Result<()> {
     let mut area = [0.0f64; AREA];
     let mut log = [0u64; LOG];
-    let x0 = [-1.0f64, 1.0];
-    let lower = [-2.0f64, -2.0];
-    let upper = [0.5f64, 2.0];
-    let opened = lbfgsb::start(lbfgsb::empty(), &mut area, options(), &x0, &lower, &upper);
-    let Answer::Kept(first) = opened else {
+    let setup = Setup {
+        options: options(),
+        x0: &[-1.0f64, 1.0],
+        lower: &[-2.0f64, -2.0],
+        upper: &[0.5f64, 2.0],
+    };
+    let Ok(first) = lbfgsb::start(lbfgsb::empty(), &mut area, setup) else {
         return Ok(());
     };
     let fit = fitted(&rt, first, &mut area, &mut log)?;

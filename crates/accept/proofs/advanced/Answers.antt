@@ -1,12 +1,10 @@
 -- `accept::advanced` meets its contract: the gradient's words stored, the fit advanced, marked and counted. Assumes nothing.
-use Prim.Native.Nat.{ℕ}
 use native.Mathlib.Omega.{arith}
 use mathlib.Core.Path.{◌≡◌, ap, ◌∙◌}
 use borrow.Author.Rules.{rules}
 use lib.ListN.{length}
 use Rattle.definition.specs.Log.{entry_words}
 use Rattle.fit.proofs.Laws.{first_room}
-use Rattle.record.specs.Records.{entry_size}
 use Rattle.held.specs.Test.{shape_held}
 use Rattle.held.proofs.Test.{ready_facts, shape_again}
 use Rattle.driver.specs.Replies.{replied}
@@ -43,14 +41,13 @@ counted-requires c =
     let f = ready_facts c.args.fit (length c.args.area.now) c.requires.0 in
     let k = c.advance-next.ensures.kept in
     let few = entry_few c.args.fit.shape.n c.args.reply f.ready.n in
-    rw (k.extra, c.entry_length.ensures, c.kind_of.ensures) (omega (arith, f.entries), omega (arith, f.words, few))
+    rw (k.extra, c.entry_length.ensures) (omega (arith, f.entries), omega (arith, f.words, few))
 
 pub returns : goal.returns
 returns c =
     let z : length c.advance-next.new.area ≡ length c.args.area.now = search rules in
     let e : c.entry_length.result ≡ length (entry_words (replied c.args.reply c.args.gradient.now)) =
     c.entry_length.ensures
-    ∙ ap (λ (k : ℕ). entry_size k c.args.fit.shape.n) c.kind_of.ensures
     ∙ entry_size_lem c.args.fit.shape.n c.args.reply c.args.gradient.now
     (due_long c.args.fit c.args.area.now c.args.reply c.args.gradient.now c.requires.1) in
     let f = ready_facts c.args.fit (length c.args.area.now) c.requires.0 in

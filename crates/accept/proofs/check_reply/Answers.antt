@@ -1,32 +1,32 @@
 -- `accept::check_reply` meets its contract: whether the reply is due, its length, its room. Assumes nothing.
 use Prim.Native.Nat.{ℕ, ◌+◌}
-use mathlib.Core.Path.{sym, ap, ◌∙◌}
+use mathlib.Core.Path.{refl, sym, ap, ◌∙◌}
 use lib.Dec.{ltb}
+use Rattle.std.proofs.lemmas.Result.{err_from_is_err_and}
 use Rattle.definition.specs.Problem.{refuse, when}
-use Rattle.record.specs.Records.{entry_size}
 use Rattle.accept.proofs.Checks.{passed, first_refuses, rest_decides}
 use Rattle.accept.proofs.Replying.{entry_size_lem, length_passed, said_undue, said_due}
 use Rattle.accept.proofs.check_reply.Goals as goal
 
-pub returns-in_default : goal.returns-in_default
-returns-in_default c =
+pub returns-in_err-check_due : goal.returns-in_err-check_due
+returns-in_err-check_due c =
+    let p = err_from_is_err_and c.from_residual.result c.from_residual.ensures.1 in
     λ a ws e.
-    let refused = c.in_default.is in
-    first_refuses _ refused (said_undue c.args.fit a c.args.reply ws _ c.check_due-due.ensures refused)
+    rw (p.1, p.2) (first_refuses _ refl (said_undue c.args.fit a c.args.reply ws _ c.in_err-check_due.ensures refl))
 
-pub returns-in_default-sized : goal.returns-in_default-sized
-returns-in_default-sized c =
+pub returns-in_err-check_length : goal.returns-in_err-check_length
+returns-in_err-check_length c =
+    let p = err_from_is_err_and c.from_residual-in_err-check_length.result c.from_residual-in_err-check_length.ensures.1 in
     λ a ws e.
-    let due = said_due c.args.fit a c.args.reply ws _ c.check_due-due.ensures c.in-Passed.is in
-    first_refuses _ c.in_default-sized.is (c.check_length-sized.ensures ws e ∙ due)
+    let due = said_due c.args.fit a c.args.reply ws _ c.check_due.ensures c.in_ok-check_due.was in
+    rw (p.1, p.2) (first_refuses _ refl (c.in_err-check_length.ensures ws e ∙ due))
 
 pub returns : goal.returns
 returns c =
     λ a ws e.
-    let sized = passed c.in-Passed-sized.is (c.check_length-sized.ensures ws e) in
-    let due = said_due c.args.fit a c.args.reply ws _ c.check_due-due.ensures c.in-Passed.is in
+    let sized = passed c.in_ok-check_length.was (c.check_length.ensures ws e) in
+    let due = said_due c.args.fit a c.args.reply ws _ c.check_due.ensures c.in_ok-check_due.was in
     let size = c.entry_length.ensures
-    ∙ ap (λ (k : ℕ). entry_size k c.args.fit.shape.n) c.kind_of.ensures
     ∙ entry_size_lem c.args.fit.shape.n c.args.reply ws (length_passed c.args.fit.shape.n c.args.reply ws sized) in
     c.check_room.ensures
     ∙ ap (λ (k : ℕ). when (ltb c.args.room (c.args.fit.extra.words + k)) (refuse 12 0 0)) size

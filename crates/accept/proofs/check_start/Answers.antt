@@ -5,5 +5,5 @@ use Rattle.accept.proofs.check_start.Goals as goal
 
 pub check_area-requires : goal.check_area-requires
 check_area-requires c =
-    let h = accepted_in_limits _ (passed c.in-Passed.is c.validate-rows.ensures) in
+    let h = accepted_in_limits _ (passed c.in_ok-validate.was c.validate.ensures) in
     (h.coordinates.1, h.pairs.1)

@@ -1,15 +1,16 @@
--- `area::all_finite` meets its contract; in its loop ok tells of the first i words. Assumes nothing.
-use native.Mathlib.Omega.{arith}
-use Rattle.area.specs.Area.{fold_rows}
-use Rattle.area.proofs.Laws.{fold_none, fold_done, laws}
+-- `area::all_finite` meets its contract. Assumes nothing.
+use mathlib.Core.Path.{◌≡◌, ◌∙◌}
+use borrow.Author.Rules.{rules}
+use borrow.Author.Tests.{tests}
+use mathlib.Core.Bool.{true, false}
+use lib.Ieee.Scale.{finite}
+use Rattle.std.proofs.lemmas.Iterator.{YieldsList-from_slice, cases_from_all}
+use Rattle.area.proofs.Laws.{tested, part_lent}
 use Rattle.area.proofs.all_finite.Goals as goal
 
-pub loop-i-init : goal.loop-i-init
-loop-i-init c = fold_none
-
-pub loop-i-preserved : goal.loop-i-preserved
-loop-i-preserved c = search laws
-
 pub returns : goal.returns
-unfolding fold_rows
-returns c = fold_done c.loop-i.invariant (omega arith)
+returns c =
+    let a = c.args.area.now in
+    tested a c.args.vector c.args.n c.all.result c.requires
+    (cases_from_all _ _ _ (λ x. finite x ≡ true) (λ x. finite x ≡ false) c.all.ensures.ran
+    (YieldsList-from_slice _ (c.iter.ensures.rest ∙ part_lent a c.args.vector c.args.n)) (λ x q k. search (rules, tests)) (λ x q k. search (rules, tests)))

@@ -1,17 +1,24 @@
--- `area::dot` meets its contract; in its loop the sum is that of the first i products. Assumes nothing.
-use native.Mathlib.Omega.{arith}
-use lib.Ieee.{of_bits}
-use Rattle.area.specs.Area.{fold_rows}
-use Rattle.area.proofs.Laws.{fold_none, fold_done, laws}
+-- `area::dot` meets its contract. Assumes nothing.
+use mathlib.Core.Path.{◌≡◌, ◌∙◌}
+use mathlib.Core.List.{map}
+use Rattle.std.specs.List.{zip}
+use borrow.Author.Rules.{rules}
+use Rattle.std.specs.Slice.Iter.{iter_rest}
+use Rattle.std.proofs.lemmas.Iterator.{YieldsList-from_slice, YieldsList-from_map, YieldsList-from_zip}
+use Rattle.std.proofs.lemmas.Iterator.Consumers.{YieldsList-at}
+use Rattle.definition.specs.Number.{times}
+use Rattle.area.specs.Area.{view}
+use Rattle.area.proofs.Laws.{products, summed, part_lent}
 use Rattle.area.proofs.dot.Goals as goal
 
-pub loop-i-init : goal.loop-i-init
-unfolding of_bits
-loop-i-init c = fold_none
-
-pub loop-i-preserved : goal.loop-i-preserved
-loop-i-preserved c = search laws
-
 pub returns : goal.returns
-unfolding fold_rows
-returns c = fold_done c.loop-i.invariant (omega arith)
+returns c =
+    let a = c.args.area.now in
+    let n = c.args.n in
+    let left : iter_rest c.zip.result.a ≡ view a n c.args.left = rw (c.zip.ensures.first, c.iter.ensures.rest) (part_lent a c.args.left n) in
+    let right : iter_rest c.zip.result.b ≡ view a n c.args.right = rw (← part_lent) cc in
+    summed c.sum.result c.map.result (map (λ r. times r.0 r.1) (zip (view a n c.args.left) (view a n c.args.right))) c.sum.ensures.ran
+    (YieldsList-from_map _ (λ r. times r.0 r.1)
+    (YieldsList-at c.map.ensures.source (YieldsList-from_zip (YieldsList-from_slice _ left) (YieldsList-from_slice _ right)))
+    c.map.ensures.closure (λ x r q k. search rules))
+    ∙ products a n c.args.left c.args.right c.requires.0 c.requires.1

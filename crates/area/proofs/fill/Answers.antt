@@ -1,15 +1,6 @@
--- `area::fill` meets its contract; in its loop word i of vector p becomes v. Assumes nothing.
-use native.Mathlib.Omega.{arith}
-use Rattle.area.proofs.Laws.{row_none, laws}
-use Rattle.area.specs.Area.{fill_of}
+-- `area::fill` meets its contract. Assumes nothing.
+use Rattle.area.proofs.Laws.{put_filled}
 use Rattle.area.proofs.fill.Goals as goal
 
-pub loop-i-init : goal.loop-i-init
-loop-i-init c = row_none (omega arith)
-
-pub loop-i-preserved : goal.loop-i-preserved
-loop-i-preserved c = search laws
-
 pub returns : goal.returns
-unfolding fill_of
-returns c = search laws
+returns c = put_filled _ _ _ _ _ c.requires (c.fill.ensures.after (λ y h. h))

@@ -7,17 +7,17 @@ use Rattle.cauchy.proofs.along.Goals as goal
 pub returns-then-not-is_finite : goal.returns-then-not-is_finite
 returns-then-not-is_finite c =
     let s = c.args in
-    along_fails s.n s.breaks s.path s.next s.minimizer c.is_finite.ensures (ap not c.if-not-is_finite.true)
+    along_fails s.n s.breaks.now s.path s.next s.minimizer c.is_finite.ensures (ap not c.if-not-is_finite.true)
 
 pub returns-then-minimizer-next : goal.returns-then-minimizer-next
 returns-then-minimizer-next c =
     let s = c.args in
-    along_ends s.n s.breaks s.path s.next s.minimizer c.is_finite.ensures (ap not c.if-not-is_finite.false)
+    along_ends s.n s.breaks.now s.path s.next s.minimizer c.is_finite.ensures (ap not c.if-not-is_finite.false)
     c.if-minimizer-next.true c.travel.ensures
     c.point_on_path.ensures
 
 pub returns : goal.returns
 returns c =
     let s = c.args in
-    along_leads s.n s.breaks s.path s.next s.minimizer c.is_finite.ensures (ap not c.if-not-is_finite.false) c.if-minimizer-next.false
+    along_leads s.n s.breaks.now s.path s.next s.minimizer c.is_finite.ensures (ap not c.if-not-is_finite.false) c.if-minimizer-next.false
     c.pass.ensures

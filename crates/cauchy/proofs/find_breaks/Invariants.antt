@@ -1,11 +1,7 @@
 -- `cauchy::find_breaks` meets its contract: b holds the breaks of the first i coordinates. Assumes nothing.
-use Prim.Native.Nat.{◌-◌}
 use Rattle.area.specs.Area.{view}
 use Rattle.cauchy.proofs.Order.{Finding}
 use Rattle.cauchy.proofs.find_breaks.Given as goal
 
 abbrev pub invariant-loop-i : goal.invariant-loop-i
 invariant-loop-i l = Finding l.n (view l.area l.n) l.i l.breaks
-
-abbrev pub decreases-loop-i : goal.decreases-loop-i
-decreases-loop-i l = l.n - l.i

@@ -1,30 +1,35 @@
 -- `cauchy::generalized_cauchy` meets its contract: the path is on its way from its start. Assumes nothing.
-use mathlib.Core.Path.{◌∙◌}
+use mathlib.Core.Path.{◌≡◌, ◌∙◌}
+use Prim.Native.Nat.{suc, ◌+◌, ◌-◌}
+use native.Mathlib.Omega.{arith}
 use Rattle.area.proofs.Laws.{scratch_trans}
-use Rattle.compact.proofs.Models.{prepared_kept}
+use Rattle.compact.proofs.Models.{modelled_kept}
 use Rattle.cauchy.proofs.Segments.{walking_more, walking_ends, walking_stops, walks}
 use Rattle.cauchy.proofs.generalized_cauchy.Goals as goal
 
-pub segment_from-segment-requires : goal.segment_from-segment-requires
-segment_from-segment-requires c =
-    let l = c.loop-ok.invariant in (
-      rw (l.1 ∙ c.area-1.given) c.requires.0,
-      prepared_kept _ (scratch_trans c.begin_path-path.ensures.kept l.0.kept).high c.requires.1,
+pub segment_from-requires : goal.segment_from-requires
+segment_from-requires c =
+    let l = c.loop.invariant in (
+      rw (l.long ∙ c.begin_path-path.auto.area) c.requires.0,
+      modelled_kept _ (scratch_trans c.begin_path-path.ensures.kept l.way.kept).high c.requires.1,
       c.find_breaks-breaks.ensures.listed,
     )
 
-pub returns-in-Ended : goal.returns-in-Ended
-returns-in-Ended c =
+pub returns-in-Break : goal.returns-in-Break
+returns-in-Break c =
+    let n = c.args.model.now.shape.n in
+    let one : n + 2 - c.loop.counter ≡ suc (n + 2 - (c.loop.counter + 1)) = omega arith in
     walks _ _ c.find_breaks-breaks.ensures c.begin_path-path.ensures
-    (walking_ends c.loop-ok.invariant.0 c.segment_from-segment.ensures _ c.in-Ended.is)
+    (walking_ends c.loop.invariant.way c.segment_from.ensures _ one _ c.in-Break.is)
 
-pub returns-then-remaining-eq0 : goal.returns-then-remaining-eq0
-returns-then-remaining-eq0 c =
-    walks _ _ c.find_breaks-breaks.ensures c.begin_path-path.ensures
-    (walking_stops c.loop-ok.invariant.0 c.segment_from-segment.ensures _ c.in-Onward.is c.if-remaining-eq0.true)
+pub loop-preserved : goal.loop-preserved
+loop-preserved c =
+    let n = c.args.model.now.shape.n in
+    let one : n + 2 - c.loop.counter ≡ suc (n + 2 - (c.loop.counter + 1)) = omega arith in record {
+      way = walking_more c.loop.invariant.way c.segment_from.ensures _ one _ c.in-Continue.is;
+      long = c.segment_from.auto.area ∙ c.loop.invariant.long;
+    }
 
-pub loop-ok-preserved : goal.loop-ok-preserved
-loop-ok-preserved c = (
-  walking_more c.loop-ok.invariant.0 c.segment_from-segment.ensures _ c.in-Onward.is c.if-remaining-eq0.false,
-  c.area-in-loop-ok-1.given ∙ c.loop-ok.invariant.1,
-)
+pub returns : goal.returns
+returns c =
+    walks _ _ c.find_breaks-breaks.ensures c.begin_path-path.ensures (walking_stops c.loop.invariant.way (omega arith))

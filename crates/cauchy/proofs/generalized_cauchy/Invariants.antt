@@ -1,13 +1,14 @@
 -- `cauchy::generalized_cauchy` meets its contract: the path is on its way from its start. Assumes nothing.
 use mathlib.Core.Path.{◌≡◌}
+use Prim.Native.Nat.{◌+◌, ◌-◌}
 use lib.ListN.{length}
 use Rattle.area.specs.Area.{view}
 use Rattle.cauchy.proofs.Segments.{Walking}
 use Rattle.cauchy.proofs.generalized_cauchy.Given as goal
 
-abbrev pub invariant-loop-ok : goal.invariant-loop-ok
-invariant-loop-ok l =
-    Walking l.shape l.theta l.breaks l.initial.remaining l.initial.path (view l.initial.area l.shape.n) l.remaining l.path (view l.area l.shape.n) × (length l.area ≡ length l.initial.area)
-
-abbrev pub decreases-loop-ok : goal.decreases-loop-ok
-decreases-loop-ok l = l.remaining
+abbrev pub invariant-loop : goal.invariant-loop
+invariant-loop l = record {
+  way : let h = l.model.shape in
+      Walking h l.model.theta l.breaks (h.n + 2) l.initial.path (view l.initial.area h.n) (h.n + 2 - l.counter) l.path (view l.area h.n);
+  long : length l.area ≡ length l.initial.area;
+}

@@ -1,23 +1,24 @@
--- `cauchy::insert_in` meets its contract: what is left to sift is what there was. Assumes nothing.
-use mathlib.Core.Path.{sym, ◌∙◌}
+-- `cauchy::insert_in` meets its contract: the later breaks move up, and the entry stands before them. Assumes nothing.
+use mathlib.Core.Path.{◌≡◌, sym}
+use Prim.Native.Nat.{suc, ◌+◌, ◌-◌, ◌≤◌}
 use native.Mathlib.Omega.{arith}
-use lib.ListN.{length-set}
-use Rattle.cauchy.proofs.Order.{sift_moves, sift_rests, sift_first}
+use Rattle.cauchy.specs.State.{no_break_time}
+use Rattle.cauchy.proofs.Order.{sift_moves, later_few}
 use Rattle.cauchy.proofs.insert_in.Goals as goal
-use Rattle.cauchy.proofs.insert_in.Goals.{else-loop-place-test, then-loop-place-test+then-not_later}
 
-pub loop-place-preserved : goal.loop-place-preserved
-loop-place-preserved c = (
-  sym (sift_moves c.loop-place.place c.loop-place.list c.args.entry c.loop-place-test.true (sym c.not_later.ensures ∙ c.if-not_later.false))
-      ∙ c.loop-place.invariant.0,
-  simp length-set (omega arith),
-)
+pub overflow_sub-place : goal.overflow_sub-place
+overflow_sub-place c = later_few c.args.list.now c.args.count c.args.entry c.later.ensures
 
 pub returns : goal.returns
 returns c =
-    elim c.loop-place-test.branch [
-      | else-loop-place-test w ↦ sym (sift_first c.loop-place.place c.loop-place.list c.args.entry w.loop-place-test.false) ∙ c.loop-place.invariant.0
-      | then-loop-place-test+then-not_later w ↦
-          sym (sift_rests c.loop-place.place c.loop-place.list c.args.entry w.loop-place-test.true (sym w.not_later.ensures ∙ w.if-not_later.true))
-          ∙ c.loop-place.invariant.0
-    ]
+    let few : c.later.result ≤ c.args.count = later_few c.args.list.now c.args.count c.args.entry c.later.ensures in
+    sift_moves c.args.count _ c.args.list.now c.copy_within.new.self c.args.entry c.requires (rw (sym c.later.ensures) (omega arith))
+    (record {
+      long = c.copy_within.ensures.len;
+      below = λ j h. c.copy_within.ensures.by_index.1 j no_break_time (omega arith);
+      moved = λ j h l.
+          let p = c.args.count - c.later.result in
+          let z : p + (suc j - (p + 1)) ≡ j = omega arith in
+          rw z at (c.copy_within.ensures.by_index.0 (suc j) no_break_time (omega arith) (omega arith));
+      above = λ j h. c.copy_within.ensures.by_index.2 j no_break_time (omega arith);
+    })

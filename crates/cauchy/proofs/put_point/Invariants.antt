@@ -1,5 +1,4 @@
 -- `cauchy::put_point` meets its contract: word i of the point is made of the words at i. Assumes nothing.
-use Prim.Native.Nat.{◌-◌}
 use Rattle.area.specs.Area.{vector_cauchy}
 use Rattle.area.proofs.Laws.{Row}
 use Rattle.cauchy.specs.State.{point_in}
@@ -7,6 +6,3 @@ use Rattle.cauchy.proofs.put_point.Given as goal
 
 abbrev pub invariant-loop-i : goal.invariant-loop-i
 invariant-loop-i l = Row l.initial.area l.n vector_cauchy (λ i w. point_in w) l.area l.i
-
-abbrev pub decreases-loop-i : goal.decreases-loop-i
-decreases-loop-i l = l.n - l.i

@@ -1,15 +1,14 @@
--- `cauchy::still` meets its contract: ok tells of the first i words. Assumes nothing.
+-- `cauchy::still` meets its contract: `all` goes over the words as the definition does. Assumes nothing.
+use mathlib.Core.Path.{◌∙◌}
 use native.Mathlib.Omega.{arith}
-use Rattle.area.specs.Area.{fold_rows}
-use Rattle.area.proofs.Laws.{fold_none, fold_done, laws}
+use Rattle.std.proofs.Common.{rules}
+use Rattle.std.proofs.lemmas.Iterator.{YieldsList-from_slice}
+use Rattle.std.proofs.lemmas.Iterator.Search.{all_from_yields_List}
+use Rattle.float.proofs.Constants.{zero_is}
+use Rattle.cauchy.proofs.Paths.{is_zero, still_all}
 use Rattle.cauchy.proofs.still.Goals as goal
 
-pub loop-i-init : goal.loop-i-init
-loop-i-init c = fold_none
-
 pub returns : goal.returns
-unfolding fold_rows
-returns c = fold_done c.loop-i.invariant (omega arith)
-
-pub loop-i-preserved : goal.loop-i-preserved
-loop-i-preserved c = search laws
+returns c =
+    all_from_yields_List is_zero _ _ _ c.all.ensures.ran (YieldsList-from_slice _ c.iter.ensures.rest) (λ x b q k. search (rules, zero_is))
+    ∙ still_all c.args.area.now c.args.n (omega arith)

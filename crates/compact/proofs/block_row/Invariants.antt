@@ -1,5 +1,5 @@
 -- `compact::block_row` meets its contract: the first j entries are made. Assumes nothing.
-use Prim.Native.Nat.{◌-◌, ◌*◌}
+use Prim.Native.Nat.{◌*◌}
 use Rattle.definition.specs.Number.{zero64}
 use Rattle.definition.specs.Compact.{block_entry}
 use Rattle.area.specs.Area.{view}
@@ -10,6 +10,3 @@ use Rattle.compact.proofs.block_row.Given as goal
 abbrev pub invariant-loop-j : goal.invariant-loop-j
 invariant-loop-j l =
     Padding zero64 (2 * l.shape.pairs) (block_entry l.shape.n (compact_of l.shape l.theta (view l.area l.shape.n)) l.i) l.row l.j
-
-abbrev pub decreases-loop-j : goal.decreases-loop-j
-decreases-loop-j l = 2 * l.shape.pairs - l.j

@@ -6,15 +6,15 @@ use Rattle.compact.proofs.lay_column.Goals as goal
 
 pub copy-requires : goal.copy-requires
 copy-requires c =
-    (vector_room _ c.requires.0 (omega arith), c.pair_slot-slot.ensures.second)
+    (vector_room _ c.requires.0 (omega arith), c.pair_slot-slot.ensures.second _ c.requires.0)
 
 pub scale-requires : goal.scale-requires
 scale-requires c =
-    (vector_room _ c.requires.0 (omega arith), c.pair_slot-slot-else-column-shape.ensures.first)
+    (vector_room _ c.requires.0 (omega arith), c.pair_slot-slot-else-column-shape.ensures.first _ c.requires.0)
 
 pub returns-then-column-shape : goal.returns-then-column-shape
 returns-then-column-shape c =
-    y_laid _ _ _ _ _ _ _ c.if-column-shape.true c.pair_slot-slot.ensures c.column_slot-to.ensures c.copy.ensures
+    y_laid _ _ _ _ _ _ _ c.if-column-shape.true c.requires.0 c.pair_slot-slot.ensures c.column_slot-to.ensures c.copy.ensures
 
 pub returns-else-column-shape : goal.returns-else-column-shape
 returns-else-column-shape c =

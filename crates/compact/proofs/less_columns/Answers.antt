@@ -23,4 +23,4 @@ loop-column-preserved c =
 
 pub returns : goal.returns
 returns c =
-    lessened_done _ c.requires.1 c.requires.2 c.scale.ensures c.loop-column.invariant.0 (omega arith)
+    lessened_done _ c.requires.1.laid c.requires.2 c.scale.ensures c.loop-column.invariant.0 (omega arith)

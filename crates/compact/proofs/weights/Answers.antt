@@ -1,12 +1,12 @@
 -- `compact::weights` meets its contract: no pair, no weight, and otherwise the block's system is solved. Assumes nothing.
-use mathlib.Core.Path.{ap, ◌∙◌}
-use mathlib.Core.Option.{some}
-use Rattle.compact.proofs.Columns.{weighed_with, unweighed}
+use mathlib.Core.Path.{◌∙◌}
+use lib.Ieee.{of_bits}
+use Rattle.compact.proofs.Columns.{weighed, unweighed}
 use Rattle.compact.proofs.weights.Goals as goal
 
-pub returns-then-shape-eq0 : goal.returns-then-shape-eq0
-returns-then-shape-eq0 c = ap some c.zeros-zero_row.ensures ∙ unweighed _ _ _ _ c.if-shape-eq0.true
+pub returns-then-model-eq0 : goal.returns-then-model-eq0
+unfolding of_bits
+returns-then-model-eq0 c = unweighed _ _ _ _ c.if-model-eq0.true
 
 pub returns : goal.returns
-returns c =
-    weighed_with _ _ _ c.if-shape-eq0.false c.requires.1 c.right_side-right.ensures c.solve_with.ensures
+returns c = c.solve.ensures ∙ weighed _ _ _ _ c.if-model-eq0.false c.requires.1 c.right_side-right.ensures

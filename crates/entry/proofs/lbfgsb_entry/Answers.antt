@@ -6,10 +6,10 @@ use Rattle.entry.proofs.lbfgsb_entry.Goals as goal
 
 pub answer-requires : goal.answer-requires
 answer-requires c =
-    read_small c.read-read.new.area c.read-read.new.log (read_input c.args.input.now) c.read-read.result _ c.in-Kept.is c.read-read.ensures
+    read_small c.read.new.area c.read.new.log (read_input c.args.input.now) c.read.result _ c.in-Ok.is c.read.ensures
 
 pub overflow_add-result : goal.overflow_add-result
 overflow_add-result c =
     let few =
-    read_few c.read-read.new.area c.read-read.new.log c.args.input.now c.read-read.result _ c.in-Refused.is c.read-read.ensures in
+    read_few c.read.new.area c.read.new.log c.args.input.now c.read.result _ c.in-Err.is c.read.ensures in
     omega (arith, few)

@@ -1,4 +1,4 @@
--- `float::infinity` meets its contract: 1 / 0, by computation. Assumes nothing.
+-- `float::infinity` meets its contract: `f64::INFINITY` is 1 / 0, by computation. Assumes nothing.
 use mathlib.Core.Path.{refl}
 use lib.Ieee.{of_bits, div}
 use Rattle.float.proofs.infinity.Goals as goal

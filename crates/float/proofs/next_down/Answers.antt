@@ -1,9 +1,7 @@
 -- `float::next_down` meets its contract. Assumes nothing.
-use Rattle.float.proofs.Laws.{ne_self}
+use mathlib.Core.Path.{◌∙◌}
+use Rattle.float.proofs.Laws.{down_is}
 use Rattle.float.proofs.next_down.Goals as goal
 
-pub returns-then-x : goal.returns-then-x
-returns-then-x c = simp (← ne_self, c.if-x.true)
-
 pub returns : goal.returns
-returns c = simp (← ne_self, c.if-x.false, c.word_to_float.ensures, c.word_below.ensures)
+returns c = c.next_down.ensures ∙ down_is c.args.x c.well_formed.0.1

@@ -1,9 +1,7 @@
 -- `float::next_up` meets its contract. Assumes nothing.
-use Rattle.float.proofs.Laws.{ne_self}
+use mathlib.Core.Path.{◌∙◌}
+use Rattle.float.proofs.Laws.{up_is}
 use Rattle.float.proofs.next_up.Goals as goal
 
-pub returns-then-x : goal.returns-then-x
-returns-then-x c = simp (← ne_self, c.if-x.true)
-
 pub returns : goal.returns
-returns c = simp (← ne_self, c.if-x.false, c.word_to_float.ensures, c.word_above.ensures)
+returns c = c.next_up.ensures ∙ up_is c.args.x c.well_formed.0.1

@@ -1,22 +1,29 @@
 -- `iteration::model` meets its contract: no Cauchy point, or what the minimum over its free coordinates gives. Assumes nothing.
-use mathlib.Core.Path.{◌∙◌}
-use Rattle.compact.proofs.Models.{modelled_kept, prepared, prepared_kept}
+use mathlib.Core.Path.{◌≡◌}
+use borrow.Author.Rules.{rules}
+use lib.ListN.{length}
+use Rattle.compact.proofs.Models.{modelled_kept}
 use Rattle.iteration.proofs.Laws.{no_point, from_point}
 use Rattle.iteration.proofs.model.Goals as goal
 
-pub returns-then-not-generalized_cauchy : goal.returns-then-not-generalized_cauchy
-returns-then-not-generalized_cauchy c =
-    no_point c.requires.0 c.lay_columns.ensures.1 c.generalized_cauchy.ensures c.if-not-generalized_cauchy.true
-
 pub primal_minimize-requires : goal.primal_minimize-requires
 primal_minimize-requires c =
-    let k = c.generalized_cauchy.ensures.kept.high in (
-      rw (c.area-2-1.given ∙ c.area-1.given) c.requires.0,
-      modelled_kept _ k (record { laid = c.lay_columns.ensures.0; block = c.block-block.ensures }),
-      prepared_kept _ k (prepared (record { laid = c.lay_columns.ensures.0; block = c.block-block.ensures }) c.factor-rows.ensures),
+    let b = c.build.ensures in
+    let z : length c.generalized_cauchy.new.area ≡ length c.args.area.now = search rules in (
+      rw (b.shape, c.new-model.ensures.0, z) c.requires.0,
+      modelled_kept _ c.generalized_cauchy.ensures.kept.high b.is,
     )
 
-pub returns : goal.returns
-returns c =
-    from_point c.requires.0 c.lay_columns.ensures.1 c.generalized_cauchy.ensures c.if-not-generalized_cauchy.false
-    c.primal_minimize.ensures
+pub returns-then-generalized_cauchy : goal.returns-then-generalized_cauchy
+returns-then-generalized_cauchy c =
+    let b = c.build.ensures in
+    let m = c.new-model.ensures in
+    from_point c.requires.0 (rw (b.shape, m.0) at b.kept) (rw (b.shape, b.theta, m.0, m.1) at c.generalized_cauchy.ensures) c.if-generalized_cauchy.true
+    (rw (b.shape, b.theta, m.0, m.1) at c.primal_minimize.ensures)
+
+pub returns-else-generalized_cauchy : goal.returns-else-generalized_cauchy
+returns-else-generalized_cauchy c =
+    let b = c.build.ensures in
+    let m = c.new-model.ensures in
+    rw c.if-generalized_cauchy.false
+    (no_point c.requires.0 (rw (b.shape, m.0) at b.kept) (rw (b.shape, b.theta, m.0, m.1) at c.generalized_cauchy.ensures) c.if-generalized_cauchy.false)

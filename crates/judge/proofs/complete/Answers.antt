@@ -8,9 +8,9 @@ use Rattle.judge.proofs.complete.Goals as goal
 pub returns-then-all_finite : goal.returns-then-all_finite
 returns-then-all_finite c =
     steps_from c.measured.ensures refl (record { options = refl; extra = refl; settled = λ s. s })
-    (completed _ _ c.gradient_charged-charged.ensures c.all_finite.ensures c.if-all_finite.true)
+    (completed _ _ c.charge_gradient.ensures c.all_finite.ensures c.if-all_finite.true)
 
 pub returns-else-all_finite : goal.returns-else-all_finite
 returns-else-all_finite c =
     stepped c.ended.ensures refl (record { options = refl; extra = refl; settled = λ s. s }) refl saved_refl
-    (completed_nonfinite _ _ c.gradient_charged-charged.ensures c.all_finite.ensures c.if-all_finite.false)
+    (completed_nonfinite _ _ c.charge_gradient.ensures c.all_finite.ensures c.if-all_finite.false)

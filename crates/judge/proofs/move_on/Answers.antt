@@ -7,9 +7,8 @@ use Rattle.judge.proofs.move_on.Goals as goal
 
 pub returns : goal.returns
 returns c =
-    let g = noticing (counters_of c.iteration_charged-charged.result) c.args.fit.value in
-    rw c.with_phase-next.ensures
-    (steps_as
-    (steps_then {G = g} c.hold-held.ensures
+    let g = noticing (counters_of c.charge_iteration.new.self) c.args.fit.value in
+    steps_as
+    (steps_then {G = g} c.hold.ensures
     (still {F = g} (record { shape = refl; kept = record { options = refl; extra = refl; settled = λ s. s }; is = λ v. refl }) refl))
-    (moving _ c.iteration_charged-charged.ensures))
+    (moving _ c.charge_iteration.ensures)

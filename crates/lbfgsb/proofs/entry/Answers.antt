@@ -1,40 +1,32 @@
 -- `lbfgsb::entry` meets its contract: no fit, a log too short, no such entry, an output too short, the entry put. Assumes nothing.
-use mathlib.Core.Path.{sym, ◌∙◌}
-use Rattle.lookup.proofs.Entries.{entry_room}
+use mathlib.Core.Path.{refl, sym, ◌∙◌}
+use mathlib.Core.List.{◌++◌}
+use lib.ListN.{length, drop}
+use Rattle.problem.specs.declared.Refusal.TheVariants.{OutputShort}
 use Rattle.lookup.proofs.Saving.{facts}
 use Rattle.lbfgsb.proofs.Reading.{entry_short, entry_put}
 use Rattle.lbfgsb.proofs.entry.Goals as goal
 
-pub entry_place-at-requires : goal.entry_place-at-requires
-entry_place-at-requires c =
-    ((facts _ _ (sym c.is_held.ensures ∙ c.if-not-is_held.false)).ready.n, c.if-log-words.false)
+pub entry-found-requires : goal.entry-found-requires
+entry-found-requires c =
+    (facts _ _ (sym c.is_held.ensures ∙ c.if-not-is_held.false)).ready.n
 
-pub length_at-length-requires : goal.length_at-length-requires
-length_at-length-requires c =
-    ((facts _ _ (sym c.is_held.ensures ∙ c.if-not-is_held.false)).ready.n, c.if-log-words.false)
-
-pub returns-then-out-length : goal.returns-then-out-length
-returns-then-out-length c =
-    entry_short _ _ _ _ _ _ _ _
+pub returns-then-out-found : goal.returns-then-out-found
+returns-then-out-found c =
+    entry_short _ _ _ _ _ (OutputShort _) _
     (sym c.is_held.ensures ∙ c.if-not-is_held.false)
     c.if-log-words.false
     c.if-fit-k.false
-    c.entry_place-at.ensures
-    c.length_at-length.ensures
-    c.if-out-length.true
-    c.refusal-then-out-length.ensures
-
-pub copy_words-requires : goal.copy_words-requires
-copy_words-requires c =
-    (entry_room _ _ _ _ _ _ c.if-log-words.false c.entry_place-at.ensures c.length_at-length.ensures, c.if-out-length.false)
+    c.entry-found.ensures
+    c.if-out-found.true
+    refl
 
 pub returns : goal.returns
 returns c =
-    entry_put _ _ _ _ _ _ _ _
+    entry_put _ _ _ _ _ _ _
     (sym c.is_held.ensures ∙ c.if-not-is_held.false)
     c.if-log-words.false
     c.if-fit-k.false
-    c.entry_place-at.ensures
-    c.length_at-length.ensures
-    c.if-out-length.false
-    c.copy_words.ensures
+    c.entry-found.ensures
+    c.if-out-found.false
+    (λ i. c.copy_from_slice.ensures.after i ++ drop (length c.entry-found.result.now) c.args.out.now)

@@ -1,27 +1,33 @@
 -- `lbfgsb::question` meets its contract: no fit, a fit that has ended, an output too short, the question put. Assumes nothing.
-use mathlib.Core.Path.{sym, ◌∙◌}
+use mathlib.Core.Path.{refl, sym, ap, ◌∙◌}
+use Rattle.problem.specs.declared.Refusal.TheVariants.{OutputShort}
+use Rattle.fit.specs.State.{kind_number}
 use Rattle.lookup.proofs.Saving.{facts}
-use Rattle.lbfgsb.proofs.Reading.{question_short, question_put}
+use Rattle.lbfgsb.proofs.Reading.{question_ended, question_short, question_put, none_asked, some_asked, number_above}
 use Rattle.lbfgsb.proofs.question.Goals as goal
 
-pub returns-then-out-n : goal.returns-then-out-n
-returns-then-out-n c l =
-    question_short _ _ l _ _
+pub returns-in_default : goal.returns-in_default
+returns-in_default c l =
+    question_ended _ _ l _ (sym c.is_held.ensures ∙ c.if-not-is_held.false) (none_asked _ c.in_default.not-Some c.asked.ensures)
+
+pub returns-then-out-needed : goal.returns-then-out-needed
+returns-then-out-needed c l =
+    question_short _ _ l _ (OutputShort c.args.fit.shape.n)
     (sym c.is_held.ensures ∙ c.if-not-is_held.false)
-    (λ e. c.if-kind-eq0.false (c.question_kind-kind.ensures ∙ e))
-    c.if-out-n.true
-    c.refusal.ensures
+    (some_asked _ _ c.in-Some.is c.asked.ensures)
+    c.if-out-needed.true
+    refl
 
 pub put_question-requires : goal.put_question-requires
 put_question-requires c =
     let f = facts _ _ (sym c.is_held.ensures ∙ c.if-not-is_held.false) in
-    (f.ready.sound, f.within, c.if-out-n.false)
+    (f.ready.sound, f.within, c.if-out-needed.false)
 
 pub returns : goal.returns
 returns c l =
     question_put _ _ l _ _ _
     (sym c.is_held.ensures ∙ c.if-not-is_held.false)
-    c.if-kind-eq0.false
-    c.if-out-n.false
-    c.question_kind-kind.ensures
+    (number_above c.in-Some.kind)
+    c.if-out-needed.false
+    (ap kind_number (sym c.in-Some.is) ∙ c.asked.ensures)
     c.put_question.ensures

@@ -1,5 +1,6 @@
 -- `lbfgsb::save` meets its contract: no fit, a log too short, an output too short, the record put. No sum wraps. Assumes nothing.
-use mathlib.Core.Path.{sym, ◌∙◌}
+use mathlib.Core.Path.{refl, sym, ◌∙◌}
+use Rattle.problem.specs.declared.Refusal.TheVariants.{OutputShort}
 use native.Mathlib.Omega.{arith}
 use Rattle.lookup.proofs.Saving.{facts, setup_few, held_placed}
 use Rattle.lbfgsb.proofs.Reading.{save_short, save_put}
@@ -27,12 +28,12 @@ overflow_mul-needed c =
 
 pub returns-then-out-needed : goal.returns-then-out-needed
 returns-then-out-needed c =
-    save_short _ _ _ _ _ _
+    save_short _ _ _ _ (OutputShort _) _
     (sym c.is_held.ensures ∙ c.if-not-is_held.false)
     c.if-log-words.false
     c.setup_words.ensures
     c.if-out-needed.true
-    c.refusal-then-out-needed.ensures
+    refl
 
 pub put_record-requires : goal.put_record-requires
 put_record-requires c =

@@ -1,7 +1,7 @@
 -- `lbfgsb::take_back` meets its contract. Assumes nothing.
 use mathlib.Core.Path.{sym, ◌∙◌}
 use Rattle.held.proofs.Test.{held_ready}
-use Rattle.lbfgsb.proofs.Back.{answered_back}
+use Rattle.lbfgsb.proofs.Back.{built_back}
 use Rattle.lbfgsb.proofs.take_back.Goals as goal
 
 pub shorten-requires : goal.shorten-requires
@@ -14,5 +14,4 @@ returns c =
     let a = c.args in
     let x = c.shorten in
     let held = sym c.is_held.ensures ∙ c.if-not-is_held.false in
-    answered_back a.fit a.area.now a.log.now a.j held c.if-fit-j.false c.if-log-fit.false x.result c.answered.result
-    x.new.area x.new.log c.answered.ensures x.ensures
+    built_back a.fit a.area.now a.log.now a.j held c.if-fit-j.false c.if-log-fit.false x.result x.new.area x.new.log x.ensures.0 x.ensures.1

@@ -1,13 +1,6 @@
--- `question::copy_out` meets its contract; in its loop the first i words are written. Assumes nothing.
-use native.Mathlib.Omega.{arith}
-use Rattle.question.proofs.Laws.{front_none, front_word, laws}
+-- `question::copy_out` meets its contract: the vector's words stand in front. Assumes nothing.
+use Rattle.question.proofs.Laws.{copied}
 use Rattle.question.proofs.copy_out.Goals as goal
 
-pub loop-i-init : goal.loop-i-init
-loop-i-init c = front_none (omega arith)
-
-pub loop-i-preserved : goal.loop-i-preserved
-loop-i-preserved c = search (laws, front_word)
-
 pub returns : goal.returns
-returns c = search laws
+returns c = copied _ _ _ _ c.copy_from_slice.ensures.after c.requires.0

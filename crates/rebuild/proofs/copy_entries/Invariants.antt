@@ -1,10 +1,6 @@
 -- `rebuild::copy_entries` meets its contract: the first i words are the record's. Assumes nothing.
-use Prim.Native.Nat.{◌-◌}
 use Rattle.rebuild.proofs.Pasted.{Copying}
 use Rattle.rebuild.proofs.copy_entries.Given as goal
 
 abbrev pub invariant-loop-i : goal.invariant-loop-i
 invariant-loop-i l = Copying l.initial.log l.input l.at l.count l.log l.i
-
-abbrev pub decreases-loop-i : goal.decreases-loop-i
-decreases-loop-i l = l.count - l.i

@@ -1,13 +1,14 @@
 -- `rebuild::replay_log` meets its contract. Assumes nothing.
 use mathlib.Core.Path.{sym, subst}
-use mathlib.Core.Bool.{false≢true}
 use Prim.Native.Nat.{◌≤◌, ◌<◌}
 use native.Mathlib.Omega.{arith}
 use lib.ListN.{length, take}
 use lib.Seq.{length-take-le}
 use Rattle.fit.specs.State.{most_words}
 use Rattle.held.proofs.Test.{ready_facts}
-use Rattle.replay.specs.declared.Replayed.{Replayed}
+use Rattle.std.specs.Prelude.{Result}
+use Rattle.fit.specs.declared.Fit.{Fit}
+use Rattle.problem.specs.declared.Refusal.{Refusal}
 use Rattle.rebuild.specs.Built.{Markable}
 use Rattle.rebuild.proofs.Built.{ready_room, opened_ready, markable_all, stays_by}
 use Rattle.rebuild.proofs.replay_log.Goals as goal
@@ -19,7 +20,6 @@ pub replay-replayed-requires : goal.replay-replayed-requires
 replay-replayed-requires c =
     let r = c.reset-first in
     let k = r.ensures in (
-      record { logged = λ e. c.requires.1; recorded = λ e. absurd (false≢true e) },
       opened_ready c.args.fit c.requires.0 k,
       k.entries,
       k.words,
@@ -29,7 +29,7 @@ pub settle-requires : goal.settle-requires
 settle-requires c =
     let r = c.replay-replayed in
     let all = c.all_of-all in
-    subst (λ (q : Replayed). Markable q (length r.new.area)) (sym all.ensures) (markable_all r.result r.ensures)
+    subst (λ (q : Result Fit Refusal). Markable q (length r.new.area)) (sym all.ensures) (markable_all r.result r.ensures)
 
 pub returns : goal.returns
 returns c =

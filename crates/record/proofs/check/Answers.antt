@@ -1,13 +1,10 @@
 -- `record::check` meets its contract. Assumes nothing.
-use Rattle.std.proofs.Common.{sym, ◌∙◌, subst}
-use Rattle.record.specs.Records.{Parsing}
+use Rattle.std.proofs.Common.{sym, ◌∙◌}
 use Rattle.record.proofs.Reading.{frame_placed, unframed, sums_refused, form_refused}
 use Rattle.record.proofs.check.Goals as goal
 
 pub returns-then-not-is_framed : goal.returns-then-not-is_framed
-returns-then-not-is_framed c =
-    subst (Parsing _ _) (sym c.refused.ensures)
-    (unframed c.args.input.now c.args.available (sym c.is_framed.ensures ∙ c.if-not-is_framed.true))
+returns-then-not-is_framed c = unframed c.args.input.now c.args.available (sym c.is_framed.ensures ∙ c.if-not-is_framed.true)
 
 pub sums_agree-requires : goal.sums_agree-requires
 sums_agree-requires c =
@@ -16,9 +13,7 @@ sums_agree-requires c =
 pub returns-then-not-sums_agree : goal.returns-then-not-sums_agree
 returns-then-not-sums_agree c =
     let framed = sym c.is_framed.ensures ∙ c.if-not-is_framed.false in
-    subst (Parsing _ _) (sym c.refused-then-not-sums_agree.ensures)
-    (sums_refused c.args.input.now _ framed c.frame_of-frame.ensures c.args.available
-    (sym c.sums_agree.ensures ∙ c.if-not-sums_agree.true))
+    sums_refused c.args.input.now _ framed c.frame_of-frame.ensures c.args.available (sym c.sums_agree.ensures ∙ c.if-not-sums_agree.true)
 
 pub is_malformed-requires : goal.is_malformed-requires
 is_malformed-requires c =
@@ -28,6 +23,4 @@ pub returns-then-is_malformed : goal.returns-then-is_malformed
 returns-then-is_malformed c =
     let framed = sym c.is_framed.ensures ∙ c.if-not-is_framed.false in
     let sums = sym c.sums_agree.ensures ∙ c.if-not-sums_agree.false in
-    subst (Parsing _ _) (sym c.refused-then-is_malformed.ensures)
-    (form_refused c.args.input.now _ framed c.frame_of-frame.ensures c.args.available sums
-    (sym c.is_malformed.ensures ∙ c.if-is_malformed.true))
+    form_refused c.args.input.now _ framed c.frame_of-frame.ensures c.args.available sums (sym c.is_malformed.ensures ∙ c.if-is_malformed.true)

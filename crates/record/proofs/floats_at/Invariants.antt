@@ -1,10 +1,6 @@
 -- `record::floats_at` meets its contract: the first i floats are laid. Assumes nothing.
-use Rattle.std.proofs.Common.{◌-◌}
 use Rattle.record.proofs.Floats.{Filling}
 use Rattle.record.proofs.floats_at.Given as goal
 
 abbrev pub invariant-loop-i : goal.invariant-loop-i
 invariant-loop-i l = Filling l.input l.at l.count l.floats l.i
-
-abbrev pub decreases-loop-i : goal.decreases-loop-i
-decreases-loop-i l = l.count - l.i

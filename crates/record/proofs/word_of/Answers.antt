@@ -6,5 +6,5 @@ use Rattle.record.proofs.word_of.Goals as goal
 pub returns-then-i-words : goal.returns-then-i-words
 returns-then-i-words c = c.word_at.ensures ∙ word_from _ _ _ _ c.if-i-words.true
 
-pub returns : goal.returns
-returns c = word_past _ _ _ c.if-i-words.false
+pub returns-else-i-words : goal.returns-else-i-words
+returns-else-i-words c = word_past _ _ _ c.if-i-words.false

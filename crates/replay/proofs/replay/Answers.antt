@@ -1,33 +1,35 @@
 -- `replay::replay` meets its contract: at each turn what is reached is the definition's reading of as many entries. Assumes nothing.
+use mathlib.Core.Path.{◌≡◌}
 use mathlib.Core.Logic.{inl, inr}
 use native.Mathlib.Omega.{arith}
-use Rattle.replay.proofs.Words.{source_count}
-use Rattle.replay.proofs.Laws.{reached_first, reached_more, reached_run, reached_done, reached_refused, next_took, took_more}
+use lib.ListN.{length}
+use Rattle.std.proofs.lemmas.Result.{err_from_is_err_and}
+use Rattle.replay.proofs.Laws.{reached_first, reached_more, reached_run, reached_done, reached_refused, took_more}
 use Rattle.replay.proofs.Runs.{run_least}
 use Rattle.replay.proofs.replay.Goals as goal
 
 pub loop-reached-init : goal.loop-reached-init
-loop-reached-init c = let p = c.requires in reached_first _ _ _ _ _ p.1 p.2 p.3
+loop-reached-init c = let p = c.requires in reached_first _ _ _ _ _ p.0 p.1 p.2
 
-pub returns-then-limit-reached : goal.returns-then-limit-reached
-returns-then-limit-reached c = let h = c.loop-reached.invariant in reached_done h (inr (omega (arith, h.few, c.if-limit-reached.true)))
-
-pub returns-in_default : goal.returns-in_default
-returns-in_default c =
-    reached_refused _ c.in_default.is c.loop-reached.invariant c.if-limit-reached.false c.area-1.given c.replay_entry-next.ensures
+pub returns-in_err-taken : goal.returns-in_err-taken
+returns-in_err-taken c =
+    let p = err_from_is_err_and c.from_residual.result c.from_residual.ensures.1 in
+    let size : length c.replay_entry.new.area ≡ length c.loop-reached.area = omega arith in
+    rw (p.1, p.2) (reached_refused _ c.loop-reached.invariant c.if-reached-limit.true size c.in_err-taken.ensures)
 
 pub loop-reached-smaller : goal.loop-reached-smaller
 loop-reached-smaller c =
-    let k = next_took _ _ _ _ _ _ _ c.in-Done.is c.replay_entry-next.ensures in
-    omega (arith, took_more k, run_least c.after_probes-reached.ensures, c.loop-reached-test.true)
+    omega (arith, took_more c.in_ok-taken.ensures, run_least c.after_probes-reached.ensures, c.loop-reached-test.true, c.words.ensures)
 
 pub loop-reached-preserved : goal.loop-reached-preserved
 loop-reached-preserved c =
-    let k = next_took _ _ _ _ _ _ _ c.in-Done.is c.replay_entry-next.ensures in
-    reached_run (reached_more c.loop-reached.invariant c.if-limit-reached.false c.area-1.given k) c.after_probes-reached.ensures
+    let size : length c.replay_entry.new.area ≡ length c.loop-reached.area = omega arith in
+    reached_run (reached_more c.loop-reached.invariant c.if-reached-limit.true size c.in_ok-taken.ensures) c.after_probes-reached.ensures
 
-pub returns : goal.returns
-returns c =
-    let a = c.args in
-    let h = c.loop-reached.invariant in
-    reached_done h (inl (omega (arith, h.words, c.loop-reached-test.false, source_count a.source a.log.now a.input.now c.requires.0)))
+pub returns-else-reached-limit : goal.returns-else-reached-limit
+returns-else-reached-limit c =
+    let h = c.loop-reached.invariant in reached_done h (inr (omega (arith, h.few, c.if-reached-limit.false)))
+
+pub returns-after-loop-reached : goal.returns-after-loop-reached
+returns-after-loop-reached c =
+    let h = c.loop-reached.invariant in reached_done h (inl (omega (arith, h.words, c.loop-reached-test.false, c.words.ensures)))

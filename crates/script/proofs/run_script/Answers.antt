@@ -7,7 +7,7 @@ use Rattle.script.proofs.Laws.{given_same, ran_none, ran_more, ran_all}
 use Rattle.script.proofs.run_script.Goals as goal
 
 pub loop-i-init : goal.loop-i-init
-loop-i-init c = (search rules, search rules, refl, refl, refl, ran_none _ _ _ _ _ _ _ _ _ c.unrun-ran.ensures)
+loop-i-init c = (search rules, search rules, refl, refl, refl, ran_none _ _ _)
 
 pub loop-i-preserved : goal.loop-i-preserved
 loop-i-preserved c =
@@ -24,4 +24,4 @@ loop-i-preserved c =
 pub returns : goal.returns
 returns c =
     let l = c.loop-i in
-    ran_all _ _ l.i _ _ _ _ _ _ (omega arith) c.unrun-ran.ensures l.invariant.5
+    ran_all _ _ l.i _ _ _ (omega arith) l.invariant.5

@@ -1,19 +1,16 @@
 -- `script::run_script` meets its contract: one call more with each turn. Assumes nothing.
-use Prim.Native.Nat.{◌≤◌, ◌-◌, ◌/◌}
+use Prim.Native.Nat.{◌≤◌, ◌/◌}
 use mathlib.Core.Path.{◌≡◌}
 use lib.ListN.{length}
-use Rattle.problem.specs.Setups.{setup_in}
 use Rattle.lbfgsb.specs.Words.{words}
-use Rattle.script.specs.Script.{given, shown, Runs}
+use Rattle.script.specs.Script.{given_of, shown, Runs}
 use Rattle.script.proofs.Laws.{calls_to}
 use Rattle.script.proofs.run_script.Given as goal
 
 abbrev pub invariant-loop-i : goal.invariant-loop-i
 invariant-loop-i l =
+    let first = l.initial in
     (l.i ≤ length l.script / 3) × (length l.script ≤ 0xFFFF_FFFF_FFFF_FFFF)
-    × (length l.point ≡ length l.initial.point) × (length l.found ≡ length l.initial.found) × (length l.bytes ≡ length l.initial.bytes)
-    × Runs (calls_to (given (setup_in l.o l.x0 l.lower l.upper) l.gradients l.input (length l.initial.point) (length l.initial.found) (length l.initial.bytes)) l.script l.i)
-    (words l.initial.ran.fit l.initial.area l.initial.log) (words l.ran.fit l.area l.log) (shown l.ran.last l.ran.fit.shape.n l.point l.found l.bytes)
-
-abbrev pub decreases-loop-i : goal.decreases-loop-i
-decreases-loop-i l = length l.script / 3 - l.i
+    × (length l.point ≡ length first.point) × (length l.found ≡ length first.found) × (length l.bytes ≡ length first.bytes)
+    × Runs (calls_to (given_of l.inputs (length first.point) (length first.found) (length first.bytes)) l.script l.i)
+    (words first.ran.fit first.area first.log) (words l.ran.fit l.area l.log) (shown l.ran.last l.ran.fit.shape.n l.point l.found l.bytes)

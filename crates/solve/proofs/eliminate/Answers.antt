@@ -1,17 +1,25 @@
--- `solve::eliminate` meets its contract; in its loop the first d rows below k are done, and row k is p. Assumes nothing.
+-- `solve::eliminate` meets its contract; in its loop the rows before i are done, and row k stays. Assumes nothing.
 use mathlib.Core.Path.{refl, ◌∙◌}
 use native.Mathlib.Omega.{arith}
-use Rattle.solve.proofs.Steps.{eliminating_none, eliminating_more, eliminating_done}
+use lib.Ieee.{of_bits}
+use lib.ListN.{set}
+use Rattle.definition.specs.Solve.{less_row}
+use Rattle.solve.proofs.Steps.{ran_none, ran_more, ran_done, eliminates}
 use Rattle.solve.proofs.eliminate.Goals as goal
 
-pub loop-past-init : goal.loop-past-init
-loop-past-init c = (eliminating_none refl, refl)
+pub loop-i-init : goal.loop-i-init
+unfolding of_bits
+loop-i-init c = (refl, ran_none (omega arith))
 
-pub loop-past-preserved : goal.loop-past-preserved
-loop-past-preserved c =
-    let inv = c.loop-past.invariant in
-    let after = c.less_pivot.ensures in
-    (eliminating_more inv.0 (omega arith) (omega arith) after.0 after.1, after.2 ∙ inv.1)
+pub loop-i-preserved : goal.loop-i-preserved
+loop-i-preserved c =
+    let a = c.args in
+    let k = c.loop-i in
+    let after = c.less_pivot.ensures in (
+      after.2 ∙ k.invariant.0,
+      ran_more k.invariant.1 (omega arith)
+          (λ j. ((after.1 ∙ (λ i. less_row a.n (after.0 i) k.matrix a.k k.i)) j, set k.multipliers k.i (after.0 j))),
+    )
 
 pub returns : goal.returns
-returns c = eliminating_done c.loop-past.invariant.0 (omega arith)
+returns c = eliminates (omega arith) (omega arith) (ran_done c.loop-i.invariant.1 (omega arith))

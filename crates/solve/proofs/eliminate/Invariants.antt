@@ -1,12 +1,12 @@
--- `solve::eliminate` meets its contract; in its loop the first d rows below k are done, and row k is p. Assumes nothing.
+-- `solve::eliminate` meets its contract; in its loop the rows before i are done, and row k stays. Assumes nothing.
 use mathlib.Core.Path.{◌≡◌}
-use Prim.Native.Nat.{◌-◌}
+use Prim.Native.Nat.{◌+◌}
+use lib.ListN.{replicate}
+use Rattle.definition.specs.Number.{zero64}
 use Rattle.definition.specs.Solve.{row}
-use Rattle.solve.proofs.Steps.{Eliminating}
+use Rattle.solve.proofs.Steps.{Ran, cleared_row}
 use Rattle.solve.proofs.eliminate.Given as goal
 
-abbrev pub invariant-loop-past : goal.invariant-loop-past
-invariant-loop-past l = Eliminating l.n l.k l.initial.matrix l.multipliers l.matrix l.past × (row l.matrix l.k ≡ l.top)
-
-abbrev pub decreases-loop-past : goal.decreases-loop-past
-decreases-loop-past l = l.rows - l.past
+abbrev pub invariant-loop-i : goal.invariant-loop-i
+invariant-loop-i l =
+    (row l.matrix l.k ≡ l.top) × Ran (l.k + 1) l.n (cleared_row l.n l.k) (l.initial.matrix, replicate 32 zero64) (l.matrix, l.multipliers) l.i

@@ -1,7 +1,6 @@
 -- `solve::scale` meets its contract; in its loop most is the largest magnitude of the first i rows. Assumes nothing.
 use mathlib.Core.Path.{◌≡◌}
 use mathlib.Core.Bool.{false}
-use Prim.Native.Nat.{◌-◌}
 use lib.Ieee.{is_nan}
 use Rattle.definition.specs.Number.{abs, max, zero64}
 use Rattle.definition.specs.Vector.{fold_to}
@@ -11,6 +10,3 @@ use Rattle.solve.proofs.scale.Given as goal
 
 abbrev pub invariant-loop-i : goal.invariant-loop-i
 invariant-loop-i l = (is_nan l.most ≡ false) × Looped l.n (λ i most. fold_to l.n (λ j m. max m (abs (entry l.matrix i j))) most) zero64 l.most l.i
-
-abbrev pub decreases-loop-i : goal.decreases-loop-i
-decreases-loop-i l = l.n - l.i

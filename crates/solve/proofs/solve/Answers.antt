@@ -4,4 +4,4 @@ use Rattle.solve.proofs.Steps.{factors_solve}
 use Rattle.solve.proofs.solve.Goals as goal
 
 pub returns : goal.returns
-returns c = c.solve_with.ensures ∙ factors_solve _ c.factor-rows.ensures
+returns c = c.solve.ensures ∙ factors_solve _ c.factor.ensures

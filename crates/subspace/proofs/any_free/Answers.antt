@@ -1,20 +1,19 @@
--- `subspace::any_free` meets its contract: none of the first i coordinates is free. Assumes nothing.
-use mathlib.Core.Path.{sym, ◌∙◌}
+-- `subspace::any_free` meets its contract: `any` goes over the coordinates as the definition does. Assumes nothing.
+use mathlib.Core.Path.{refl, ◌∙◌}
+use Prim.Native.Nat.{ℕ}
 use native.Mathlib.Omega.{arith}
-use Rattle.area.specs.Area.{fold_rows}
-use Rattle.area.proofs.Laws.{fold_none, fold_more, fold_done}
-use Rattle.subspace.proofs.Laws.{any_found}
+use Rattle.std.proofs.Common.{rules}
+use Rattle.std.proofs.lemmas.Iterator.{YieldsList-from_range}
+use Rattle.std.proofs.lemmas.Iterator.Search.{any_from_yields_List}
+use Rattle.area.specs.Area.{words_at}
+use Rattle.subspace.specs.State.{free_in}
+use Rattle.subspace.proofs.Laws.{any_is}
 use Rattle.subspace.proofs.any_free.Goals as goal
 
-pub loop-i-init : goal.loop-i-init
-loop-i-init c = fold_none
-
-pub returns-then-is_free : goal.returns-then-is_free
-returns-then-is_free c = any_found _ _ _ _ c.loop-i.invariant (omega arith) c.is_free.ensures c.if-is_free.true
-
-pub loop-i-preserved : goal.loop-i-preserved
-loop-i-preserved c = fold_more c.loop-i.invariant (omega arith) (sym c.if-is_free.false ∙ c.is_free.ensures)
-
 pub returns : goal.returns
-unfolding fold_rows
-returns c = fold_done c.loop-i.invariant (omega arith)
+returns c =
+    let a = c.args.area.now in
+    let n = c.args.n in
+    any_from_yields_List (λ (i : ℕ). free_in (words_at a n i)) _ _ _ c.any.ensures.ran
+    (YieldsList-from_range 0 n n refl (omega arith)) (λ x b q k. search rules)
+    ∙ any_is a n

@@ -11,14 +11,14 @@ loop-column-init c = (added_none _ (rw neg_zero_is at c.fill.ensures), refl)
 
 pub add_column-requires : goal.add_column-requires
 add_column-requires c =
-    let s = rw (← c.area-1.given, ← c.loop-column.invariant.1) at c.requires.0 in
+    let s = rw (← c.fill.auto.area, ← c.loop-column.invariant.1) at c.requires.0 in
     (omega (arith, vector_room 15 s (omega arith)), vector_room _ s (omega arith))
 
 pub loop-column-preserved : goal.loop-column-preserved
 loop-column-preserved c =
     let r = c.loop-column.invariant in
-    (added_more r.0 (omega arith) _ c.column_slot.ensures c.add_column.ensures, c.area-in-loop-column-1.given ∙ r.1)
+    (added_more r.0 (omega arith) _ c.column_slot.ensures c.add_column.ensures, c.add_column.auto.area ∙ r.1)
 
 pub returns : goal.returns
 returns c =
-    added_done c.requires.1 (rw neg_zero_is at c.fill.ensures) c.loop-column.invariant.0 (omega arith)
+    added_done c.requires.1.laid (rw neg_zero_is at c.fill.ensures) c.loop-column.invariant.0 (omega arith)

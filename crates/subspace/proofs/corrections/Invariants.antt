@@ -1,6 +1,5 @@
 -- `subspace::corrections` meets its contract: the first k columns are added. Assumes nothing.
 use mathlib.Core.Path.{◌≡◌}
-use Prim.Native.Nat.{◌-◌, ◌*◌}
 use lib.ListN.{length}
 use Rattle.area.specs.Area.{view}
 use Rattle.subspace.proofs.Laws.{Added}
@@ -9,6 +8,3 @@ use Rattle.subspace.proofs.corrections.Given as goal
 abbrev pub invariant-loop-column : goal.invariant-loop-column
 invariant-loop-column l =
     Added l.shape l.weights (view l.initial.area l.shape.n) (view l.area l.shape.n) l.column × (length l.area ≡ length l.initial.area)
-
-abbrev pub decreases-loop-column : goal.decreases-loop-column
-decreases-loop-column l = 2 * l.shape.pairs - l.column

@@ -1,5 +1,4 @@
 -- `subspace::difference` meets its contract: the first i words are those of the difference. Assumes nothing.
-use Prim.Native.Nat.{◌-◌}
 use lib.ListN.{length}
 use Rattle.definition.specs.Number.{minus}
 use Rattle.definition.specs.Vector.{word}
@@ -9,6 +8,3 @@ use Rattle.subspace.proofs.difference.Given as goal
 
 abbrev pub invariant-loop-i : goal.invariant-loop-i
 invariant-loop-i l = Filled most_coordinates (length l.left) (λ i. minus (word l.left i) (word l.right i)) l.result l.i
-
-abbrev pub decreases-loop-i : goal.decreases-loop-i
-decreases-loop-i l = length l.left - l.i

@@ -1,5 +1,4 @@
 -- `subspace::free_sum` meets its contract: the sum is that of the first i coordinates. Assumes nothing.
-use Prim.Native.Nat.{◌-◌}
 use Rattle.definition.specs.Number.{neg_zero}
 use Rattle.area.proofs.Laws.{Folded}
 use Rattle.subspace.specs.State.{free_term}
@@ -7,6 +6,3 @@ use Rattle.subspace.proofs.free_sum.Given as goal
 
 abbrev pub invariant-loop-i : goal.invariant-loop-i
 invariant-loop-i l = Folded l.area l.n neg_zero (λ i. free_term l.left l.right) l.sum l.i
-
-abbrev pub decreases-loop-i : goal.decreases-loop-i
-decreases-loop-i l = l.n - l.i

@@ -1,5 +1,4 @@
 -- `subspace::moved` meets its contract: the first i words are moved. Assumes nothing.
-use Prim.Native.Nat.{◌-◌}
 use Rattle.area.specs.Area.{vector_target}
 use Rattle.area.proofs.Laws.{Row}
 use Rattle.subspace.specs.State.{moved_in}
@@ -7,6 +6,3 @@ use Rattle.subspace.proofs.moved.Given as goal
 
 abbrev pub invariant-loop-i : goal.invariant-loop-i
 invariant-loop-i l = Row l.initial.area l.n vector_target (λ i. moved_in l.alpha) l.area l.i
-
-abbrev pub decreases-loop-i : goal.decreases-loop-i
-decreases-loop-i l = l.n - l.i

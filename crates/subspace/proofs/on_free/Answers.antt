@@ -5,14 +5,14 @@ use borrow.Author.Rules.{rules}
 use Rattle.subspace.proofs.Makes.{model_kept, without_steps, targets}
 use Rattle.subspace.proofs.on_free.Goals as goal
 
-pub steps-made-requires : goal.steps-made-requires
-steps-made-requires c =
-    (search rules, model_kept c.residual-found.ensures c.requires.1)
+pub steps-requires : goal.steps-requires
+steps-requires c =
+    (search rules, model_kept c.residual.ensures c.requires.1)
 
-pub returns-then-not-made : goal.returns-then-not-made
-returns-then-not-made c =
-    without_steps _ _ _ _ _ _ _ c.residual-found.ensures (ap not c.if-not-found.false) c.steps-made.ensures (ap not c.if-not-made.true)
+pub returns-then-not-steps : goal.returns-then-not-steps
+returns-then-not-steps c =
+    without_steps _ _ _ _ _ _ _ c.residual.ensures (ap not c.if-not-residual.false) c.steps.ensures (ap not c.if-not-steps.true)
 
 pub returns : goal.returns
 returns c =
-    targets _ _ _ _ _ _ _ _ _ c.residual-found.ensures (ap not c.if-not-found.false) c.steps-made.ensures (ap not c.if-not-made.false) c.moved_by.ensures
+    targets _ _ _ _ _ _ _ _ _ c.residual.ensures (ap not c.if-not-residual.false) c.steps.ensures (ap not c.if-not-steps.false) c.moved_by.ensures

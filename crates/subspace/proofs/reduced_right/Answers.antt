@@ -1,12 +1,14 @@
 -- `subspace::reduced_right` meets its contract: the first i products are made, from the columns as they stand. Assumes nothing.
-use mathlib.Core.Path.{◌∙◌}
+use mathlib.Core.Path.{refl, ◌∙◌}
 use native.Mathlib.Omega.{arith}
+use lib.Ieee.{of_bits}
 use Rattle.compact.proofs.Laws.{padding_none, padding_more, padding_done, pairs_count, vector_room}
 use Rattle.subspace.proofs.Laws.{right_is}
 use Rattle.subspace.proofs.reduced_right.Goals as goal
 
 pub loop-i-init : goal.loop-i-init
-loop-i-init c = padding_none (omega arith) c.zeros-right.ensures
+unfolding of_bits
+loop-i-init c = padding_none (omega arith) refl
 
 pub free_sum-requires : goal.free_sum-requires
 free_sum-requires c =
@@ -16,7 +18,7 @@ free_sum-requires c =
 pub loop-i-preserved : goal.loop-i-preserved
 loop-i-preserved c =
     padding_more c.loop-i.invariant (omega arith)
-    (c.free_sum.ensures ∙ right_is _ _ c.requires.1 (omega arith) c.column_slot.ensures)
+    (c.free_sum.ensures ∙ right_is _ _ c.requires.1.laid (omega arith) c.column_slot.ensures)
 
 pub returns : goal.returns
 returns c = rw pairs_count (padding_done c.loop-i.invariant (omega arith))

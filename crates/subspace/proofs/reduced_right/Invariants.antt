@@ -1,5 +1,5 @@
 -- `subspace::reduced_right` meets its contract: the first i products are made, from the columns as they stand. Assumes nothing.
-use Prim.Native.Nat.{◌-◌, ◌*◌}
+use Prim.Native.Nat.{◌*◌}
 use Rattle.definition.specs.Number.{zero64, times}
 use Rattle.definition.specs.Vector.{word}
 use Rattle.definition.specs.Compact.{column_word}
@@ -13,7 +13,5 @@ abbrev pub invariant-loop-i : goal.invariant-loop-i
 invariant-loop-i l =
     let v = view l.area l.shape.n in
     Padding zero64 (2 * l.shape.pairs)
-    (λ i. free_sum l.shape.n (bounds_of v) (v vector_cauchy) (λ k. times (column_word (compact_of l.shape l.theta v) i k) (word (v vector_product_d) k))) l.right l.i
-
-abbrev pub decreases-loop-i : goal.decreases-loop-i
-decreases-loop-i l = 2 * l.shape.pairs - l.i
+    (λ i. free_sum l.shape.n (bounds_of v) (v vector_cauchy) (λ k. times (column_word (compact_of l.shape l.model.theta v) i k) (word (v vector_product_d) k)))
+    l.right l.i

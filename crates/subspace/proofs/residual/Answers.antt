@@ -6,14 +6,14 @@ use borrow.Author.Rules.{rules}
 use Rattle.subspace.proofs.Makes.{differenced, no_residual, a_residual}
 use Rattle.subspace.proofs.residual.Goals as goal
 
-pub product-found-requires : goal.product-found-requires
-product-found-requires c =
+pub product-requires : goal.product-requires
+product-requires c =
     (search rules, differenced _ _ c.difference.ensures c.requires.1, omega arith, omega arith)
 
-pub returns-then-not-found : goal.returns-then-not-found
-returns-then-not-found c =
-    no_residual _ _ _ _ _ _ c.difference.ensures c.product-found.ensures (ap not c.if-not-found.true)
+pub returns-then-not-product : goal.returns-then-not-product
+returns-then-not-product c =
+    no_residual _ _ _ _ _ _ c.difference.ensures c.product.ensures (ap not c.if-not-product.true)
 
 pub returns : goal.returns
 returns c =
-    a_residual _ _ _ _ _ _ _ c.difference.ensures c.product-found.ensures (ap not c.if-not-found.false) c.add_gradient.ensures
+    a_residual _ _ _ _ _ _ _ c.difference.ensures c.product.ensures (ap not c.if-not-product.false) c.add_gradient.ensures

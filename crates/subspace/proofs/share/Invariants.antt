@@ -1,5 +1,4 @@
 -- `subspace::share` meets its contract: alpha is what the first i coordinates leave. Assumes nothing.
-use Prim.Native.Nat.{◌-◌}
 use Rattle.definition.specs.Number.{one64}
 use Rattle.area.proofs.Laws.{Folded}
 use Rattle.subspace.specs.State.{share_in}
@@ -7,6 +6,3 @@ use Rattle.subspace.proofs.share.Given as goal
 
 abbrev pub invariant-loop-i : goal.invariant-loop-i
 invariant-loop-i l = Folded l.area l.n one64 (λ i. share_in) l.alpha l.i
-
-abbrev pub decreases-loop-i : goal.decreases-loop-i
-decreases-loop-i l = l.n - l.i

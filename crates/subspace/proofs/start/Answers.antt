@@ -1,15 +1,13 @@
--- `subspace::start` meets its contract: the first i rows are made. Assumes nothing.
-use mathlib.Core.Path.{ap}
-use native.Mathlib.Omega.{arith}
-use lib.ListN.{replicate}
-use Rattle.compact.proofs.Laws.{padding_none, laws}
+-- `subspace::start` meets its contract: every entry of the grid becomes -0. Assumes nothing.
+use mathlib.Core.Path.{refl, ◌∙◌}
+use lib.Ieee.{of_bits}
+use Rattle.definition.specs.Number.{neg_zero}
+use Rattle.std.proofs.Common.{rules}
+use Rattle.subspace.proofs.Grid.{start_is}
 use Rattle.subspace.proofs.start.Goals as goal
 
-pub loop-i-init : goal.loop-i-init
-loop-i-init c = padding_none (omega arith) (ap (replicate 32) c.zeros-zero_row.ensures)
-
-pub loop-i-preserved : goal.loop-i-preserved
-loop-i-preserved c = search laws
-
 pub returns : goal.returns
-returns c = search laws
+unfolding of_bits
+returns c =
+    c.change_each.ensures (λ i j x. neg_zero) (λ i j x y h l p. search rules)
+    ∙ start_is c.args.size _ c.requires refl

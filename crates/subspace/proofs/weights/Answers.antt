@@ -8,6 +8,6 @@ use Rattle.subspace.proofs.weights.Goals as goal
 
 pub returns : goal.returns
 returns c =
-    let a = c.args in
-    let v = view a.area.now a.shape.n in
-    c.solve.ensures ∙ (λ k. solve (2 * sym (pairs_count a.shape v) k) (c.reduced-matrix.ensures k) (c.reduced_right-right.ensures k))
+    let h = c.args.model.now.shape in
+    let v = view c.args.area.now h.n in
+    c.solve.ensures ∙ (λ k. solve (2 * sym (pairs_count h v) k) (c.reduced-matrix.ensures k) (c.reduced_right-right.ensures k))

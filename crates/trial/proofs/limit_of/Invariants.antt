@@ -1,5 +1,4 @@
 -- `trial::limit_of` meets its contract; in its loop the limit is that of the first i coordinates. Assumes nothing.
-use Prim.Native.Nat.{◌-◌}
 use mathlib.Core.Bool.{false}
 use Rattle.definition.specs.Number.{step_limit}
 use Rattle.definition.specs.Search as S
@@ -13,6 +12,3 @@ start = record { amax = step_limit; face = false }
 
 abbrev pub invariant-loop-i : goal.invariant-loop-i
 invariant-loop-i l = Folded l.area l.n start (λ i w m. S.limited (distance_in w) m) (limit_of l.limit) l.i
-
-abbrev pub decreases-loop-i : goal.decreases-loop-i
-decreases-loop-i l = l.n - l.i

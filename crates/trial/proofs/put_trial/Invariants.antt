@@ -1,5 +1,4 @@
 -- `trial::put_trial` meets its contract; in its loop the first i words of the trial are made. Assumes nothing.
-use Prim.Native.Nat.{◌-◌}
 use Rattle.area.specs.Area.{vector_trial}
 use Rattle.area.proofs.Laws.{Row}
 use Rattle.trial.specs.Words.{trial_in}
@@ -7,6 +6,3 @@ use Rattle.trial.proofs.put_trial.Given as goal
 
 abbrev pub invariant-loop-i : goal.invariant-loop-i
 invariant-loop-i l = Row l.initial.area l.n vector_trial (λ i. trial_in l.alpha) l.area l.i
-
-abbrev pub decreases-loop-i : goal.decreases-loop-i
-decreases-loop-i l = l.n - l.i

@@ -1,9 +1,0 @@
--- `fixed_list::question_at` is safe and ends. Assumes nothing.
-use Rattle.std.proofs.Common.{◌≤◌, ◌-◌}
-use Rattle.fixed_list.proofs.question_at.Given as goal
-
-abbrev pub invariant-loop-i : goal.invariant-loop-i
-invariant-loop-i l = l.i ≤ l.k
-
-abbrev pub decreases-loop-i : goal.decreases-loop-i
-decreases-loop-i l = l.k - l.i

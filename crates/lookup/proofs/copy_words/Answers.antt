@@ -1,7 +1,0 @@
--- `lookup::copy_words` meets its contract; in its loop the first i words are copied. Assumes nothing.
-use mathlib.Core.Path.{refl}
-use Rattle.lookup.proofs.Entries.{copies_more}
-use Rattle.lookup.proofs.copy_words.Goals as goal
-
-pub loop-i-preserved : goal.loop-i-preserved
-loop-i-preserved c = copies_more c.loop-i.invariant c.loop-i-test.true refl

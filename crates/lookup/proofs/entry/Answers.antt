@@ -1,0 +1,13 @@
+-- `lookup::entry` meets its contract; in its loop i entries are skipped. Assumes nothing.
+use mathlib.Core.Path.{◌∙◌}
+use Rattle.lookup.proofs.Entries.{skipped_more, skipped_end, skipped_done}
+use Rattle.lookup.proofs.entry.Goals as goal
+
+pub returns-then-is_empty : goal.returns-then-is_empty
+returns-then-is_empty c = skipped_end c.loop-i.invariant _ c.loop-i-test.true c.front_entry-front.ensures c.if-is_empty.ensures
+
+pub loop-i-preserved : goal.loop-i-preserved
+loop-i-preserved c = skipped_more c.loop-i.invariant _ c.loop-i-test.true c.front_entry-front.ensures c.if-is_empty.ensures
+
+pub returns : goal.returns
+returns c = c.front_entry.ensures ∙ skipped_done c.loop-i.invariant c.loop-i-test.false

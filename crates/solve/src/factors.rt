@@ -1,0 +1,144 @@
+// What the elimination of a matrix leaves for every right side, and the solution by it.
+ghost use Rattle.std.specs.Prelude.{◌≡◌, false, ◌+◌, ◌-◌, ◌≤◌, ◌<◌};
+ghost use Rattle.std.specs.List.{list_all};
+ghost use Rattle.std.specs.Float.Ieee.Scale.{finite};
+ghost use Rattle.definition.specs.Number.{times};
+ghost use Rattle.definition.specs.Vector.{word, sum as sum_of};
+ghost use Rattle.definition.specs.Solve.{row, entry, system};
+ghost use Rattle.definition.specs.Solve.{back_row, backward as backward_of};
+ghost use Rattle.solve.specs.Steps.{OrderInRange, cleared_to, forward_to};
+
+use crate::{Cleared, Matrix, Row, SIZE, column, regular, scale};
+
+// The triangular rows; in row k of the multipliers the multiples of row k that were taken from the rows below; in place k of order the row that
+// changed places with row k; and whether every column has its pivot.
+// Kept: a flag, and factors that are filled in place. An Option of them by value is 16 KB that each return copies: `compact::Model` has the figures.
+#[derive(Drop)]
+pub struct Factors {
+    pub rows: Matrix,
+    pub multipliers: Matrix,
+    pub order: [usize; SIZE],
+    pub complete: bool,
+    pub ghost within: { OrderInRange order },
+}
+
+impl Factors {
+    ghost use Rattle.solve.specs.Factors.{Triangular, Factored, solved_by};
+
+    // The factors of no matrix.
+    pub fn none() -> Self
+        ensures { result.complete ≡ false }
+    {
+        Factors {
+            rows: [[0.0; SIZE]; SIZE],
+            multipliers: [[0.0; SIZE]; SIZE],
+            order: [0; SIZE],
+            complete: false,
+        }
+    }
+
+    // Every column in turn; false at the first that has no pivot.
+    fn triangular(&mut self, n: usize, scale: f64) -> bool
+        requires { n ≤ SIZE }
+        ensures { Triangular n scale self.old.rows result self.new }
+    {
+        for k in 0..n {
+            let Some(cleared) = column(&mut self.rows, n, scale, k) else {
+                return false;
+            };
+            let Cleared { row, multipliers } = cleared;
+            self.multipliers[k] = multipliers;
+            self.order[k] = row;
+        }
+        true
+    }
+
+    // The elimination of the first n rows and columns, once for every right side.
+    pub fn factor(&mut self, n: usize, matrix: Matrix)
+        requires { n ≤ SIZE }
+        ensures { Factored n matrix self.new }
+    {
+        self.rows = matrix;
+        let most = scale(&self.rows, n);
+        self.complete = regular(most) && self.triangular(n, most);
+    }
+
+    // The solution of the system whose matrix was factored, with this right side.
+    pub fn solve(&self, n: usize, right: Row) -> Option<Row>
+        requires { n ≤ SIZE }
+        ensures { result ≡ solved_by n self.now right }
+    {
+        if !self.complete || !all_finite(&right[..n]) {
+            return None;
+        }
+        let eliminated = forward(&self.multipliers, &self.order, right, n);
+        let x = backward(&self.rows, eliminated, n);
+        all_finite(&x[..n]).then_some(x)
+    }
+}
+
+// The product of row i past its diagonal and x, from -0.0.
+#[tactic(auto, using(crate::proofs::Steps::loops, float::proofs::Constants::neg_zero_is))]
+fn row_sum(matrix: &Matrix, x: &Row, n: usize, i: usize) -> f64
+    requires { (i < n) × (n ≤ SIZE) }
+    ensures { result ≡ sum_of (n - (i + 1)) (λ d. times (entry matrix.now i (i + 1 + d)) (word x.now (i + 1 + d))) }
+{
+    let mut sum = float::NEG_ZERO;
+    for j in i + 1..n {
+        sum += matrix[i][j] * x[j];
+    }
+    sum
+}
+
+// Place i of x, those after it being known.
+fn back_row(matrix: &Matrix, right: &Row, x: &mut Row, n: usize, i: usize)
+    requires { (i < n) × (n ≤ SIZE) }
+    ensures { x.new ≡ back_row n (system matrix.now right.now) i x.old }
+{
+    let sum = row_sum(matrix, x, n, i);
+    x[i] = (right[i] - sum) / matrix[i][i];
+}
+
+// The solution of a triangular system, from row n - 1 down.
+fn backward(matrix: &Matrix, right: Row, n: usize) -> Row
+    requires { n ≤ SIZE }
+    ensures { result ≡ backward_of n (system matrix.now right) }
+{
+    let mut x = [0.0; SIZE];
+    for i in (0..n).rev() {
+        back_row(matrix, &right, &mut x, n, i);
+    }
+    x
+}
+
+// Whether all are finite.
+fn all_finite(values: &[f64]) -> bool
+    ensures { result ≡ list_all finite values.now }
+{
+    values.iter().all(|x| float::is_finite(*x))
+}
+
+// The places past k, each less its multiple of place k.
+#[tactic(auto, using(crate::proofs::Steps::loops), unfolding(crate::specs::Steps::cleared_to))]
+fn clear(x: &mut Row, multipliers: &Matrix, n: usize, k: usize)
+    requires { (k < n) × (n ≤ SIZE) }
+    ensures { x.new ≡ cleared_to (n - (k + 1)) k (row multipliers.now k) x.old }
+{
+    let value = x[k];
+    for i in k + 1..n {
+        x[i] -= multipliers[k][i] * value;
+    }
+}
+
+// The right side, taken through the steps of the elimination.
+fn forward(multipliers: &Matrix, order: &[usize; SIZE], right: Row, n: usize) -> Row
+    requires { (n ≤ SIZE) × OrderInRange order.now }
+    ensures { result ≡ forward_to n n multipliers.now order.now right }
+{
+    let mut x = right;
+    for k in 0..n {
+        x.swap(k, order[k]);
+        clear(&mut x, multipliers, n, k);
+    }
+    x
+}
