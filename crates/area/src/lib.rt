@@ -65,6 +65,7 @@ pub fn words(n: usize, m: usize) -> usize
 }
 
 // Word i of the vector.
+// Kept: area and n are two parameters. A struct of both proves, and its writers owe two facts more: the same loan and the same n.
 pub fn get(area: &[f64], n: usize, vector: usize, i: usize) -> f64
     requires { (vector * n + n ≤ length area.now) × (i < n) }
     ensures { result ≡ words_at area.now n i vector }

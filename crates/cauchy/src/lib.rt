@@ -139,7 +139,7 @@ fn later(list: &[BreakTime], entry: BreakTime) -> usize
 }
 
 // A stable insertion in a lent list: the first `count` breaks are in order, and the entry goes behind those that are not later.
-// Kept: the break times are a lent slice, with this one insertion and one reader.
+// Kept: a rule of the project, that the break times are a lent slice with one thin insertion.
 fn insert_in(list: &mut [BreakTime], count: usize, entry: BreakTime)
     requires { count < length list.old }
     ensures { list.new ≡ sift count list.old entry }
@@ -150,7 +150,7 @@ fn insert_in(list: &mut [BreakTime], count: usize, entry: BreakTime)
 }
 
 // The break of a number from a lent list.
-// Kept: the one reader of the lent slice.
+// Kept: a rule of the project, that a break of the lent slice is read by a thin function.
 fn break_at(list: &[BreakTime], i: usize) -> BreakTime
     requires { i < length list.now }
     ensures { result ≡ get_or list.now i no_break_time }
@@ -214,6 +214,7 @@ fn find_breaks(area: &[f64], n: usize) -> Breaks
 // ---- the path
 
 // The direction of every coordinate, in its vector.
+// Kept: an index. What is read and what is written stand in one lent slice.
 fn set_velocity(area: &mut [f64], n: usize)
     requires { first_pair * n ≤ length area.old }
     ensures { view area.new n ≡ rowwise n vector_velocity (λ i w. velocity_in w) (view area.old n) }
@@ -240,6 +241,7 @@ fn begin_path(area: &mut [f64], n: usize) -> Path
 }
 
 // The displacement after that much time more.
+// Kept: an index. What is read and what is written stand in one lent slice.
 fn travel(area: &mut [f64], n: usize, time: f64)
     requires { first_pair * n ≤ length area.old }
     ensures { view area.new n ≡ travelled_of n time (view area.old n) }
@@ -304,6 +306,7 @@ fn pass(area: &mut [f64], n: usize, breaks: &Breaks, time: f64, path: Path) -> P
 }
 
 // The point of every coordinate.
+// Kept: an index. What is read and what is written stand in one lent slice.
 fn put_point(area: &mut [f64], n: usize)
     requires { first_pair * n ≤ length area.old }
     ensures { view area.new n ≡ rowwise n vector_cauchy (λ i w. point_in w) (view area.old n) }
@@ -434,6 +437,7 @@ fn segment_from(
 }
 
 // The Cauchy point in its vector, where there is one: at most n + 1 segments lead on.
+// Kept: the point stands in the lent area, so a bool says whether there is one.
 pub fn generalized_cauchy(area: &mut [f64], model: &compact::Model) -> bool
     requires { let h = model.now.shape in
         Sound h (length area.old) × Modelled model.now (view area.old h.n) × (h.n ≤ most_coordinates) }

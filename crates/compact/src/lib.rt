@@ -231,6 +231,7 @@ fn block(area: &[f64], shape: Shape, theta: f64) -> Matrix
 // ---- the columns of W = [Y, theta S], laid out once for a model
 
 // Vector `to` becomes the factor times vector `from`.
+// Kept: an index. What is read and what is written stand in one lent slice.
 #[tactic(auto, using(area::proofs::Laws::row_none, area::proofs::Laws::row_done))]
 fn scale(area: &mut [f64], n: usize, to: usize, from: usize, factor: f64)
     requires { (to * n + n ≤ length area.old) × (from * n + n ≤ length area.old) }
@@ -336,6 +337,7 @@ fn weights(area: &[f64], model: &Model, vector: usize) -> Option<Row>
 }
 
 // Vector `to` becomes itself less the factor times vector `from`.
+// Kept: a loop beside `scale`, since one loop for both would be given the operation as a closure that reads the area it writes.
 #[tactic(auto, using(area::proofs::Laws::row_none, area::proofs::Laws::row_done))]
 fn less(area: &mut [f64], n: usize, to: usize, from: usize, factor: f64)
     requires { (to * n + n ≤ length area.old) × (from * n + n ≤ length area.old) }

@@ -291,9 +291,9 @@ answer_numbered z (History.fit b) (Call.question room) =
     answered (check_question b room (question (run_of b))) (Answer.asked (question (run_of b))) (asks b room (question (run_of b))) tt
 answer_numbered z History.empty (Call.report room) = refl
 answer_numbered z (History.fit b) (Call.report room) =
-    let None = unreported (run_of b).phase in
+    let absent = unreported (run_of b).phase in
     let n = dimension b.setup in
-    answered {numbers = refusals_of (Call.report room)} _ _ (both (when None (refuse 15 0 0)) (output_short room n) (tested None 15 0 0 refl) (short room n refl)) tt
+    answered {numbers = refusals_of (Call.report room)} _ _ (both (when absent (refuse 15 0 0)) (output_short room n) (tested absent 15 0 0 refl) (short room n refl)) tt
 answer_numbered z History.empty Call.replies = tt
 answer_numbered z (History.fit b) Call.replies = tt
 answer_numbered z History.empty (Call.entry k room) = tt

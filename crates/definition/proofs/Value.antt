@@ -72,8 +72,8 @@ from_first s (r ∷ rs) a d e = go (unreported (run s rs).phase) refl (from_firs
           λ f. (v.0.whole, le_trans (run s (r ∷ rs)).held.f (run s rs).held.f (to_float w) v.1 (k.2 f).1),
         )
     go true q h =
-        let None = start_asked_first s rs d.1 (first_asked (run s rs).phase r q (due_taken (run s rs) r d.0)) in
-        let k : Reported s (r ∷ rs) → FromFirst s (r ∷ rs) = rw None (first_itself s r) in
+        let asked = start_asked_first s rs d.1 (first_asked (run s rs).phase r q (due_taken (run s rs) r d.0)) in
+        let k : Reported s (r ∷ rs) → FromFirst s (r ∷ rs) = rw asked (first_itself s r) in
         k e
 
 pub not_above_first :

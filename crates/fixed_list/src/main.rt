@@ -126,6 +126,7 @@ fn is_report(s: &[u8], fit: Fit, area: &[f64]) -> bool {
 }
 
 // The kind of a question, the word at which its point starts, and the word after the question.
+// Kept: the kind is a number, since the list has it as a word.
 #[derive(Clone, Copy)]
 struct Question {
     kind: u64,

@@ -76,6 +76,7 @@ fn move_on(fit: Fit, area: &mut [f64]) -> Fit
 }
 
 // A trial with its gradient: the run ends here unless the search hands back a step.
+// Kept: a rule of the project, that the run ends here unless the search hands back a step: `let .. else`.
 fn judge_trial(fit: Fit, area: &mut [f64]) -> Fit
     requires { Sound fit.shape (length area.old) × (fit.counters.nit < most_counted) }
     ensures { Steps judge_trial fit area.old result area.new }

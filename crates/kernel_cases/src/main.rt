@@ -202,6 +202,7 @@ fn is_vector(area: &[f64], n: usize, p: usize, s: &[u8], at: usize) -> bool
 }
 
 // Whether the flag at word i is 1 just where ok, and vector p then has the bits of the words behind it.
+// Kept: a bool beside the area, in which the vector stands.
 fn is_flagged(area: &[f64], n: usize, p: usize, ok: bool, s: &[u8], i: usize) -> bool
     requires { p * n + n ≤ length area.now }
 {
@@ -347,6 +348,7 @@ fn is_equal(kind: Kind, s: &[u8]) -> bool {
 }
 
 // Counts the case of a number, with the words s, by the number of its kind. Where it differs, its number is written.
+// Kept: a number, since the list has the kind as a word.
 fn judge<R: Print>(
     rt: &R,
     counts: &mut Counts,

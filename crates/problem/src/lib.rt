@@ -33,6 +33,7 @@ pub enum Scheme {
 }
 
 // The setup but for its vectors, as it was given.
+// Kept: a flag beside the bounds, which stand in the area, where a fit keeps them.
 #[derive(Clone, Copy, Debug, Default)]
 pub struct Options {
     pub bounded: bool,

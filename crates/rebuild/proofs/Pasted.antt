@@ -21,8 +21,8 @@ pub record Pasting {A : Type 0} (d : List A) (at : ℕ) (s : List A) (b : List A
 
 pub pasting_none : {A : Type 0} (d : List A) (at : ℕ) (s : List A) → at + length s ≤ length d → Pasting d at s d at
 pasting_none d at s h =
-    let None : 0 ≡ at - at = omega arith in
-    record { low = omega arith; high = omega arith; room = h; long = refl; is = paste-zero d at s ∙ ap (paste d at s) None }
+    let nothing : 0 ≡ at - at = omega arith in
+    record { low = omega arith; high = omega arith; room = h; long = refl; is = paste-zero d at s ∙ ap (paste d at s) nothing }
 
 pub pasting_more : {A : Type 0} {d : List A} {at : ℕ} {s b : List A} {i : ℕ} (v z : A) → Pasting d at s b i → i < at + length s → v ≡ get_or s (i - at) z
     → Pasting d at s (set b i v) (i + 1)

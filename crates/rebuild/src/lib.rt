@@ -76,6 +76,7 @@ fn replay_record(
 }
 
 // The words of a record's entries into the log.
+// Kept: an index. Words are made of bytes, and what `iter_mut().zip(..)` leaves in a slice is not known to a proof.
 fn copy_entries(log: &mut [u64], input: &[u8], at: usize, count: usize)
     requires { (at + 8 * count ≤ length input.now) × (count ≤ length log.old) }
     ensures { log.new ≡ headed (words_of count (drop at input.now)) log.old }

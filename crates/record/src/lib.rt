@@ -90,6 +90,7 @@ pub fn setup_words(options: Options, n: usize) -> usize
 }
 
 // The words of an entry of a kind, where there are n coordinates; none where the kind is unknown.
+// Kept: a number, since in a log and in a record a kind is a word.
 pub fn entry_length(kind: u64, n: usize) -> Option<usize>
     requires { n ≤ 65536 }
     ensures { result ≡ count_given (entry_size kind n) }
@@ -275,6 +276,7 @@ fn floats_at(input: &[u8], at: usize, count: usize) -> [f64; 768]
 }
 
 // The vectors of the setup: the start, and with a box the lower and the upper bounds behind it; then zeros.
+// Kept: fixed memory, of which the checks of a setup read three parts of n.
 pub fn vectors(input: &[u8], frame: Frame) -> [f64; 768]
     requires { (frame.at + 8 * frame.words ≤ length input.now) × (7 ≤ frame.setup) × (frame.setup ≤ frame.words) × (frame.setup ≤ 775) }
     ensures { result ≡ floats_of (slice_range (words_in input.now frame) 7 frame.setup) }

@@ -179,7 +179,7 @@ pub reached_first : (t : Fit) (a : List Float) (ws : List ℕ) (limit room : ℕ
 unfolding after_entries log_words run
 reached_first t a ws limit room h e w =
     let ready = ready_facts t (length a) h in
-    let None : drop t.extra.words ws ≡ ws = ap (λ (i : ℕ). drop i ws) w in
+    let whole : drop t.extra.words ws ≡ ws = ap (λ (i : ℕ). drop i ws) w in
     record {
       size = refl;
       small = ready.ready.n;
@@ -197,10 +197,10 @@ reached_first t a ws limit room h e w =
         replies = [];
         after =
             ap (λ (i : ℕ). after_entries i room (first_entries s ws)) e
-            ∙ ap₂ (λ (l : List ℕ) (m : M.Machine). Entries.going l [] m) (sym None) (sym k);
+            ∙ ap₂ (λ (l : List ℕ) (m : M.Machine). Entries.going l [] m) (sym whole) (sym k);
         due = tt;
         is = k;
-        spelled = None;
+        spelled = whole;
         entries = e;
         words = w;
         ready = h;

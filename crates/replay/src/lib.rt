@@ -44,6 +44,7 @@ fn record_word(input: &[u8], i: usize) -> u64
 }
 
 // n words of a record from `from` on, as the trial's gradient.
+// Kept: an index. Words are made of bytes, and what `iter_mut().zip(..)` leaves in a slice is not known to a proof.
 fn store_record(area: &mut [f64], n: usize, input: &[u8], from: usize)
     requires { (first_pair * n ≤ length area.old) × (from + n ≤ length input.now / 8) }
     ensures { view area.new n

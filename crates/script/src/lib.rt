@@ -72,6 +72,7 @@ impl Part {
 
 impl Called {
     // The call of three words.
+    // Kept: numbers, since a script is words.
     fn of_words(op: u64, a: u64, b: u64) -> Called
         ensures { result ≡ called op a b }
     {

@@ -13,6 +13,7 @@ use script::{Answer, Inputs, Ran};
 use search::{Search, Step, Trials};
 use std::{fmt, io};
 
+// Kept: numbers, since a script is words.
 const START: u64 = 0;
 
 const VALUE: u64 = 1;

@@ -21,6 +21,7 @@ pub struct Step {
 }
 
 // The number of the trial, whether the limit is where a bound is met, and whether there is a high end.
+// Kept: a flag beside the float, by the same rule.
 #[derive(Clone, Copy, Debug, Default)]
 pub struct Trials {
     pub count: usize,

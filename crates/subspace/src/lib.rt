@@ -106,6 +106,7 @@ fn free_sum(area: &[f64], n: usize, left: usize, right: usize) -> f64
 // ---- the residual B (cauchy - x) + g
 
 // The product with the displacement, and the gradient.
+// Kept: an index. What is read and what is written stand in one lent slice.
 fn add_gradient(area: &mut [f64], n: usize)
     requires { first_pair * n ≤ length area.old }
     ensures { view area.new n ≡ rowwise n vector_product_d (λ (i : ℕ) w. plus (w vector_product_z) (w vector_g)) (view area.old n) }
@@ -116,6 +117,7 @@ fn add_gradient(area: &mut [f64], n: usize)
 }
 
 // The residual in its vector; false where there is no product with the displacement.
+// Kept: the residual stands in the lent area, as what the functions below make, so a bool says whether it is there.
 fn residual(area: &mut [f64], model: &compact::Model) -> bool
     requires { Ready model.now area.old }
     ensures { let h = model.now.shape in
@@ -296,6 +298,7 @@ fn weights(area: &[f64], model: &compact::Model) -> Option<Row>
 // ---- the step over the free coordinates
 
 // The step becomes itself and vector `from` times the factor.
+// Kept: an index. What is read and what is written stand in one lent slice.
 fn add_column(area: &mut [f64], n: usize, from: usize, factor: f64)
     requires { (first_pair * n ≤ length area.old) × (from * n + n ≤ length area.old) }
     ensures { view area.new n ≡ rowwise n vector_step (λ (i : ℕ) v. plus (v vector_step) (times (v from) factor)) (view area.old n) }
@@ -325,6 +328,7 @@ fn corrections(area: &mut [f64], model: &compact::Model, weights: Row)
 }
 
 // Each free coordinate's step becomes what `step` makes of its residual and of what stands there, and that of the others 0.
+// Kept: an index. What is read and what is written stand in one lent slice.
 fn free_steps<F: Fn(f64, f64) -> f64>(area: &mut [f64], n: usize, step: F)
     requires callable { F.IsAlwaysCallable step }
     requires room { first_pair * n ≤ length area.old }
@@ -341,6 +345,7 @@ fn free_steps<F: Fn(f64, f64) -> f64>(area: &mut [f64], n: usize, step: F)
 }
 
 // The steps, by the reduced system's weights where there are pairs.
+// Kept: the steps stand in the lent area.
 fn steps(area: &mut [f64], model: &compact::Model) -> bool
     requires { Ready model.now area.old }
     ensures { let h = model.now.shape in
@@ -380,6 +385,7 @@ fn share(area: &[f64], n: usize) -> f64
 }
 
 // The target: the Cauchy point, its free coordinates moved by alpha times the step and brought into the box.
+// Kept: the target stands in the lent area.
 fn moved(area: &mut [f64], n: usize, alpha: f64) -> bool
     requires { first_pair * n ≤ length area.old }
     ensures { Makes vector_target (moved_at n (view area.old n) alpha) (view area.old n) result (view area.new n) }
@@ -394,6 +400,7 @@ fn moved(area: &mut [f64], n: usize, alpha: f64) -> bool
 }
 
 // The target by the share that the bounds leave, where the steps are finite.
+// Kept: the target stands in the lent area.
 fn moved_by(area: &mut [f64], n: usize) -> bool
     requires { first_pair * n ≤ length area.old }
     ensures { Makes vector_target (moved_by_at n (view area.old n)) (view area.old n) result (view area.new n) }
@@ -405,6 +412,7 @@ fn moved_by(area: &mut [f64], n: usize) -> bool
 }
 
 // The target where a coordinate is free.
+// Kept: the target stands in the lent area.
 fn on_free(area: &mut [f64], model: &compact::Model) -> bool
     requires { Ready model.now area.old }
     ensures { let h = model.now.shape in
@@ -461,6 +469,7 @@ fn difference(left: &[f64], right: &[f64]) -> [f64; problem::MOST_COORDINATES]
 }
 
 // The direction from x to the end that the slope towards the target chooses, handed on as that slice.
+// Kept: fixed memory, a word for each coordinate that there may be.
 fn direction(area: &[f64], n: usize, slope: f64) -> [f64; problem::MOST_COORDINATES]
     requires { (first_pair * n ≤ length area.now) × (n ≤ most_coordinates) }
     ensures { result ≡ direction_array n slope (view area.now n) }

@@ -77,6 +77,7 @@ fn trial_at(area: &[f64], n: usize, alpha: f64, i: usize) -> f64
 }
 
 // The trial point: the point held plus alpha times the direction, brought into the box.
+// Kept: an index. What is read and what is written stand in one lent slice.
 fn put_trial(area: &mut [f64], n: usize, alpha: f64)
     requires { first_pair * n ≤ length area.old }
     ensures { view area.new n ≡ upd (view area.old n) vector_trial
