@@ -1,66 +1,25 @@
 -- Laws of one more reply: its entry in the log, and the fit that holds it. Assumes nothing.
-use Prim.Native.Nat.{ℕ, suc, ◌+◌, ◌≤◌, ◌<◌}
+use Prim.Native.Nat.{ℕ, ◌+◌, ◌≤◌}
 use native.Mathlib.Omega.{arith}
-use mathlib.Core.Path.{◌≡◌, refl, sym, ap, ◌∙◌}
-use mathlib.Core.List.{List, [], ◌∷◌, ◌++◌}
+use mathlib.Core.Path.{◌≡◌, sym, ap, ◌∙◌}
+use mathlib.Core.List.{List, ◌++◌}
 use Rattle.std.specs.Prelude.{None}
-use native.Mathlib.Numerals.{add-one}
-use lib.ListN.{length, take, drop, set, get_or, length-append, length-set}
-use lib.Seq.{take_at, take-length, length-take-le, sets-eq, length-sets, paste, paste-zero, paste-suc}
+use lib.ListN.{length, take, drop, length-append}
+use lib.Seq.{take_at, length-take-le, sets-eq, length-sets}
 use lib.Ieee.{Float}
 use Rattle.definition.specs.Machine as M
 use Rattle.definition.specs.Machine.{Machine, check_due}
 use Rattle.definition.specs.Driver.{run, answer}
 use Rattle.definition.specs.Log.{entry_words, log_words}
 use Rattle.definition.specs.Book.{Book, with_reply}
-use Rattle.definition.proofs.Entries.{log_more, words_some}
+use Rattle.definition.proofs.Entries.{log_more}
 use Rattle.fit.specs.State.{machine_of}
 use Rattle.fit.specs.declared.Fit.{Fit}
-use Rattle.driver.specs.declared.Reply.{Reply}
 use Rattle.held.specs.Words.{words, Held}
 use Rattle.accept.specs.Moves.{written, Advances}
 use Rattle.held.proofs.Laws.{Reached, reached_held, held_reached}
-use Rattle.driver.specs.Replies.{replied}
 
 -- ---- the log
-
--- log is l with the first i of ws from `at` on
-pub record Copied (l ws : List ℕ) (at : ℕ) (log : List ℕ) (i : ℕ) : Type 0 where
-  pub is : log ≡ paste l at ws i
-  pub upto : i ≤ length ws
-  pub long : length log ≡ length l
-
-pub copied_none : {l ws : List ℕ} {at : ℕ} → Copied l ws at l 0
-copied_none {l} {ws} {at} = record { is = paste-zero l at ws; upto = omega arith; long = refl }
-
-pub copied_more : {l ws : List ℕ} {at : ℕ} {log : List ℕ} {i : ℕ} → Copied l ws at log i → at + length ws ≤ length l → i < length ws
-    → Copied l ws at (set log (at + i) (get_or ws i 0)) (i + 1)
-copied_more {l} {ws} {at} {log} {i} h b k = record {
-  is = rw (add-one, h.is) (paste-suc l at ws i 0 (omega arith) k);
-  upto = omega arith;
-  long = length-set log (at + i) (get_or ws i 0) ∙ h.long;
-}
-
-pub copied_done : {l ws : List ℕ} {at : ℕ} {log : List ℕ} {i : ℕ} → Copied l ws at log i → length ws ≤ i → log ≡ written at ws l
-copied_done {ws = ws} {i = i} h k =
-    let e : i ≡ length ws = omega (arith, h.upto) in
-    rw (h.is, e, take-length ws) refl
-
--- an entry has a word at least
-pub entry_long : (r : Reply) (ws : List ℕ) → 1 ≤ length (entry_words (replied r ws))
-entry_long r ws = words_some (replied r ws)
-
--- the words of an entry, as they are stored
-pub put_one : (l es : List ℕ) (at k j : ℕ) → k ≡ j → es ≡ j ∷ [] → at + length es ≤ length l → set l at k ≡ written at es l
-put_one l es at k j e q h = rw (q, e) (sets-eq (j ∷ []) l at (rw q at h))
-
-pub put_value : (l es : List ℕ) (at k v : ℕ) → k ≡ 1 → es ≡ 1 ∷ v ∷ [] → at + length es ≤ length l → set (set l at k) (at + 1) v ≡ written at es l
-put_value l es at k v e q h = rw (q, e, add-one) (sets-eq (1 ∷ v ∷ []) l at (rw q at h))
-
-pub put_gradient : (l es ws : List ℕ) (at k : ℕ) → k ≡ 2 → es ≡ 2 ∷ ws → at + length es ≤ length l → written (at + 1) ws (set l at k) ≡ written at es l
-put_gradient l es ws at k e q h =
-    let b : at + length (2 ∷ ws) ≤ length l = rw q at h in
-    rw (q, e, add-one) (sym (sets-eq ws (set l at 2) (suc at) (rw length-set (omega arith))) ∙ sets-eq (2 ∷ ws) l at b)
 
 -- the log up to the entry's end
 pub logged : (at : ℕ) (l ws : List ℕ) → at ≤ length l → take (at + length ws) (written at ws l) ≡ take at l ++ ws

@@ -1,23 +1,22 @@
 -- Laws of a reply's parts: its checks, its words in the area, and the fit that it advances. Assumes nothing.
 use Prim.Native.Nat.{ℕ, ◌+◌, ◌≤◌, ◌<◌}
 use native.Mathlib.Omega.{arith}
-use mathlib.Core.Path.{◌≡◌, refl, sym, ap, ◌∙◌}
-use mathlib.Core.Bool.{true, not, false≢true}
+use mathlib.Core.Path.{◌≡◌, refl, ap, ◌∙◌}
+use mathlib.Core.Bool.{true, false, not, false≢true}
 use mathlib.Core.List.{List, map}
 use Rattle.std.specs.Prelude.{None}
-use borrow.Author.Tests.{lt-ltb, le-ltb, ltb-false, ne_eqb, eqb-true, not-false}
-use lib.Dec.{eqb, ltb}
-use lib.ListN.{length, take, drop, replicate, length-replicate}
-use lib.Seq.{take-length}
+use borrow.Author.Tests.{lt-ltb, le-ltb, leb-true, leb-false, ltb-false, eqb-true, not-false}
+use lib.Dec.{eqb, ltb, leb}
+use lib.ListN.{length, replicate, length-replicate}
 use lib.Ieee.{Float}
 use Rattle.definition.specs.Number.{to_float}
-use Rattle.definition.specs.Problem.{Check, Terms, most_coordinates, refuse, when, ◌then◌}
+use Rattle.definition.specs.Problem.{Terms, most_coordinates, refuse, when, ◌then◌}
 use Rattle.definition.specs.Machine as M
 use Rattle.definition.specs.Machine.{Machine, kind_of, suits, takes, check_length, check_due}
 use Rattle.definition.specs.Driver.{answer, answer_in, with_gradient, on_gradient}
 use Rattle.definition.specs.Log.{entry_words}
 use Rattle.definition.proofs.Accepted.{both_passed, test_failed, due_taken}
-use Rattle.area.specs.Area.{Vecs, view, upd, Saved, vector_x0, vector_trial_gradient}
+use Rattle.area.specs.Area.{Vecs, view, Saved, vector_x0, vector_trial_gradient}
 use Rattle.area.proofs.Laws.{saved_refl, saved_trans, saved_upd}
 use Rattle.compact.specs.State.{Sound}
 use Rattle.fit.specs.State.{machine, machine_of, phase_of, Steps}
@@ -46,22 +45,6 @@ use Rattle.held.proofs.Laws.{setup_same, marked_setup, marks_saved}
 
 -- ---- 14: the length of a gradient
 
-pub no_length : (n : ℕ) (r : Reply) (ws : List ℕ) → (entry_kind r ≡ 2 → ⊥) → None ≡ check_length n (replied r ws)
-no_length n (R.Value v) ws h = refl
-no_length n R.Gradient ws h = absurd (h refl)
-no_length n R.NotSupplied ws h = refl
-no_length n R.GoOn ws h = refl
-no_length n R.Stop ws h = refl
-no_length n R.Failure ws h = refl
-
-pub wrong_length : (n : ℕ) (r : Reply) (ws : List ℕ) → entry_kind r ≡ 2 → (length ws ≡ n → ⊥) → refuse 14 n (length ws) ≡ check_length n (replied r ws)
-wrong_length n (R.Value v) ws e h = absurd (omega arith)
-wrong_length n R.Gradient ws e h = rw (ne_eqb (length ws) n h) refl
-wrong_length n R.NotSupplied ws e h = absurd (omega arith)
-wrong_length n R.GoOn ws e h = absurd (omega arith)
-wrong_length n R.Stop ws e h = absurd (omega arith)
-wrong_length n R.Failure ws e h = absurd (omega arith)
-
 -- a gradient whose length passed has n words
 pub length_passed : (n : ℕ) (r : Reply) (ws : List ℕ) → check_length n (replied r ws) ≡ None → entry_kind r ≡ 2 → length ws ≡ n
 length_passed n (R.Value v) ws e k = absurd (omega arith)
@@ -71,7 +54,8 @@ length_passed n R.GoOn ws e k = absurd (omega arith)
 length_passed n R.Stop ws e k = absurd (omega arith)
 length_passed n R.Failure ws e k = absurd (omega arith)
 
-pub due_long : (t : Fit) (a : List Float) (r : Reply) (ws : List ℕ) → check_due (machine_of t a) (replied r ws) ≡ None → entry_kind r ≡ 2 → length ws ≡ t.shape.n
+pub due_long : (t : Fit) (a : List Float) (r : Reply) (ws : List ℕ) → check_due (machine_of t a) (replied r ws) ≡ None → entry_kind r ≡ 2
+    → length ws ≡ t.shape.n
 due_long t a r ws e =
     length_passed t.shape.n r ws
     (both_passed (when (not (takes (machine_of t a) (replied r ws))) (refuse 13 0 0)) (check_length t.shape.n (replied r ws)) e).1
@@ -96,11 +80,11 @@ entry_few n R.Failure h = omega arith
 
 -- ---- 12: room in the log
 
-pub no_room : {k : Check} (room words length : ℕ) → k ≡ refuse 12 0 0 → room < words + length → k ≡ when (ltb room (words + length)) (refuse 12 0 0)
-no_room room words length e h = e ∙ rw (lt-ltb room (words + length) h) refl
+pub no_room : (room words length : ℕ) → leb (words + length) room ≡ false → refuse 12 0 0 ≡ when (ltb room (words + length)) (refuse 12 0 0)
+no_room room words length h = rw (lt-ltb room (words + length) (leb-false (words + length) room h)) refl
 
-pub some_room : (room words length : ℕ) → words + length ≤ room → None ≡ when (ltb room (words + length)) (refuse 12 0 0)
-some_room room words length h = rw (le-ltb room (words + length) h) refl
+pub some_room : (room words length : ℕ) → leb (words + length) room ≡ true → None ≡ when (ltb room (words + length)) (refuse 12 0 0)
+some_room room words length h = rw (le-ltb room (words + length) (leb-true (words + length) room h)) refl
 
 -- ---- the whole check
 
@@ -129,25 +113,6 @@ said_passed t a l r e =
     (p.0, ltb-false (length l) _ (test_failed (ltb (length l) (t.extra.words + length (entry_words r))) _ p.1))
 
 -- ---- a gradient's words in the area
-
-pub not_stored : (r : Reply) (ws : List ℕ) (v : Vecs) → (entry_kind r ≡ 2 → ⊥) → v ≡ stored r ws v
-not_stored (R.Value w) ws v h = refl
-not_stored R.Gradient ws v h = absurd (h refl)
-not_stored R.NotSupplied ws v h = refl
-not_stored R.GoOn ws v h = refl
-not_stored R.Stop ws v h = refl
-not_stored R.Failure ws v h = refl
-
-pub is_stored : (n : ℕ) (r : Reply) (ws : List ℕ) (v w : Vecs) → entry_kind r ≡ 2 → length ws ≡ n → w ≡ upd v vector_trial_gradient (map to_float (take n (drop 0 ws)))
-    → w ≡ stored r ws v
-is_stored n (R.Value x) ws v w e h k = absurd (omega arith)
-is_stored n R.Gradient ws v w e h k =
-    let q : take n ws ≡ ws = ap (λ (i : ℕ). take i ws) (sym h) ∙ take-length ws in
-    k ∙ ap (λ (us : List ℕ). upd v vector_trial_gradient (map to_float us)) q
-is_stored n R.NotSupplied ws v w e h k = absurd (omega arith)
-is_stored n R.GoOn ws v w e h k = absurd (omega arith)
-is_stored n R.Stop ws v w e h k = absurd (omega arith)
-is_stored n R.Failure ws v w e h k = absurd (omega arith)
 
 -- the start and the free vectors stay
 stored_saved : (r : Reply) (ws : List ℕ) (v : Vecs) → Saved v (stored r ws v)

@@ -1,4 +1,4 @@
-// What a start and a reply are checked for, the entry of a reply in the log, and the fit that it advances.
+// The fit that a start opens; what a reply is checked for, its entry in the log, and the fit that it advances.
 #![tactic(auto)]
 
 ghost use Rattle.std.specs.Prelude.{◌≡◌, true, List, ℕ, ◌+◌, ◌-◌, ◌*◌, ◌≤◌, ltb, Float, length};
@@ -23,27 +23,6 @@ use problem::{Options, Refusal, Setup};
 
 // ---- start
 
-// The area is too short for the setup.
-fn check_area(options: Options, n: usize, size: usize) -> Result<(), Refusal>
-    requires { (n ≤ most_coordinates) × (places_in options ≤ most_pairs) }
-    ensures { let k = area_words n (places_in options) in check_of result ≡ when (ltb size k) (refuse 11 k 0) }
-{
-    let needed = area::words(n, options.places());
-    if size < needed {
-        return Err(Refusal::AreaShort { needed });
-    }
-    Ok(())
-}
-
-// What is wrong with a setup, and then with the area.
-pub fn check_start(setup: Setup, size: usize) -> Result<(), Refusal>
-    ensures { let s = setup_of setup.entry in
-        (l : ℕ) → check_of result ≡ (validate s then check_area (record { area = size; log = l }) s) }
-{
-    setup.validate()?;
-    check_area(setup.options, setup.x0.len(), size)
-}
-
 // The fit of a setup that passed, at its first question: no entry is in the log.
 pub fn opened(setup: Setup, area: &mut [f64]) -> Fit
     requires { let s = setup_of setup in (validate s then check_area (record { area = length area.old; log = 0 }) s) ≡ None }
@@ -66,16 +45,6 @@ fn check_length(reply: Reply, found: usize, n: usize) -> Result<(), Refusal>
     }
 }
 
-// 12 where a log of `room` words has `words` of them, and none for `length` more.
-fn check_room(words: usize, length: usize, room: usize) -> Result<(), Refusal>
-    ensures { check_of result ≡ when (ltb room (words + length)) (refuse 12 0 0) }
-{
-    if room < words || room - words < length {
-        return Err(Refusal::LogShort);
-    }
-    Ok(())
-}
-
 // The words of a reply's entry.
 fn entry_length(reply: Reply, n: usize) -> usize
     requires { n ≤ most_coordinates }
@@ -91,7 +60,10 @@ pub fn check_reply(fit: Fit, reply: Reply, gradient: usize, room: usize) -> Resu
 {
     driver::check_due(fit, reply)?;
     check_length(reply, gradient, fit.shape.n)?;
-    check_room(fit.extra.words, entry_length(reply, fit.shape.n), room)
+    if !record::has_room(fit.extra.words, entry_length(reply, fit.shape.n), room) {
+        return Err(Refusal::LogShort);
+    }
+    Ok(())
 }
 
 // The words of a gradient into the log.
@@ -121,7 +93,12 @@ fn put_gradient(area: &mut [f64], n: usize, reply: Reply, gradient: &[u64])
     ensures { view area.new n ≡ stored reply gradient.now (view area.old n) }
 {
     if let Reply::Gradient = reply {
-        area::store_gradient(area, n, gradient, 0);
+        area::set_each(
+            area,
+            n,
+            area::TRIAL_GRADIENT,
+            |_area, i| float::word_to_float(gradient[i]),
+        );
     }
 }
 

@@ -152,16 +152,15 @@ row_done {a} {n} {p} {g} {b} {i} r h =
     let q : b ≡ fill a (p * n) n (rows a n g) = rw e at r.is in
     rw q (view-fill a p n (rows a n g) r.room)
 
--- the words of a slice, and those of vector q
-pub row_stored : {a : List Float} {n p : ℕ} (v : List Float) {b : List Float} {i : ℕ}
-    → Row a n p (λ i w. word v i) b i → n ≤ i → length v ≡ n → view b n ≡ upd (view a n) p v
+-- a vector whose words are those of a list
+pub rowwise_stored : (s : Vecs) (n p : ℕ) (v : List Float) → length v ≡ n → rowwise n p (λ i w. word v i) s ≡ upd s p v
 unfolding rowwise
-row_stored {a} {n} {p} v r h e = row_done r h ∙ ap (upd (view a n) p) (tab-word n v e)
+rowwise_stored s n p v e = ap (upd s p) (tab-word n v e)
 
-pub row_copied : {a : List Float} {n p q : ℕ} {b : List Float} {i : ℕ}
-    → Row a n p (λ i w. w q) b i → n ≤ i → q * n + n ≤ length a → view b n ≡ upd (view a n) p (view a n q)
+-- a vector whose words are those of vector q
+pub rowwise_copies : (s : Vecs) (n p q : ℕ) → length (s q) ≡ n → rowwise n p (λ i w. w q) s ≡ upd s p (s q)
 unfolding rowwise
-row_copied {a} {n} {p} {q} r h l = row_done r h ∙ ap (upd (view a n) p) (tab-word n (view a n q) (length-view a n q l))
+rowwise_copies s n p q e = ap (upd s p) (tab-word n (s q) e)
 
 -- ---- a loop over the index alone: s is what z has become at turn i
 
@@ -283,7 +282,7 @@ put_filled a b p n v l e =
 
 -- ---- two vectors lent, folded place by place
 
-fold_first : {A : Type 0} (n : ℕ) (step : ℕ → A → A) (z : A) → fold_to (suc n) step z ≡ fold_to n (λ (i : ℕ). step (suc i)) (step 0 z)
+pub fold_first : {A : Type 0} (n : ℕ) (step : ℕ → A → A) (z : A) → fold_to (suc n) step z ≡ fold_to n (λ (i : ℕ). step (suc i)) (step 0 z)
 unfolding fold_to
 fold_first zero step z = refl
 fold_first (suc n) step z = ap (step (suc n)) (fold_first n step z)
@@ -397,8 +396,6 @@ saved_scratch r = record { x0 = r.low vector_x0 (omega arith); free = r.free }
 pub ruleset laws = (
   row_more,
   row_done,
-  row_stored,
-  row_copied,
   looped_more,
   looped_done,
   fold_more,

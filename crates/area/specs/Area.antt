@@ -1,6 +1,7 @@
 -- The working area: a list of floats, in which vector k of n words stands at offset k * n.
 use Rattle.std.specs.Prelude.{◌≡◌, Bool, true, false, cond, List, ℕ, zero, suc, ◌+◌, ◌*◌, ◌≤◌, ◌<◌, eqb, take, drop, set, Float}
-use Rattle.std.specs.Prelude.{Option, None, Some}
+use Rattle.std.specs.Prelude.{Option, None, Some, length}
+use Rattle.std.specs.Borrow.{Bor}
 use Rattle.definition.specs.Vector.{tab, word, fold_to, difference}
 use Rattle.definition.specs.Problem.{Bounds}
 
@@ -142,6 +143,14 @@ fill a at (suc n) f = set (fill a at n f) (at + n) (f n)
 -- s, with vector p made word by word: word i is g of i and of the words at i of all the vectors
 unfoldable pub rowwise : ℕ → ℕ → (ℕ → (ℕ → Float) → Float) → Vecs → Vecs
 rowwise n p g s = upd s p (tab n (λ (i : ℕ). g i (λ (q : ℕ). word (s q) i)))
+
+-- what is asked of a closure that makes word i of a vector of n words from an area of l words and i: that it can be called
+abbrev pub CallableAt : (Bor (List Float) → ℕ → Type 0) → ℕ → ℕ → Type 0
+CallableAt P n l = (a : Bor (List Float)) (i : ℕ) → length a.now ≡ l → i < n → P a i
+
+-- and what it gives: g of i and of the words at i of all the vectors
+abbrev pub GivesEach : (Bor (List Float) → ℕ → Float → Type 0) → ℕ → ℕ → (ℕ → (ℕ → Float) → Float) → Type 0
+GivesEach P n l g = (a : Bor (List Float)) (i : ℕ) (y : Float) → length a.now ≡ l → i < n → P a i y → y ≡ g i (words_at a.now n i)
 
 -- z, taken through h at the words of each index in turn
 unfoldable pub fold_rows : {A : Type 0} → A → (ℕ → (ℕ → Float) → A → A) → ℕ → Vecs → A

@@ -1,12 +1,13 @@
 // The working area: one lent slice, in which vector k of n words stands at offset k * n.
 #![tactic(auto)]
 
-ghost use Rattle.std.specs.Prelude.{◌≡◌, ◌+◌, ◌*◌, ◌≤◌, ◌<◌, map, length, take, drop, ◌&&◌};
+ghost use Rattle.std.specs.Prelude.{◌≡◌, ℕ, Float, ◌+◌, ◌*◌, ◌≤◌, ◌<◌, map, length, take, drop, ◌&&◌};
 ghost use Rattle.definition.specs.Number.{to_float};
 ghost use Rattle.std.specs.Float.Ieee.Scale.{finite};
 ghost use Rattle.definition.specs.Vector.{dot as dot_of, all_finite};
 ghost use Rattle.definition.specs.Problem.{area_words};
 ghost use Rattle.area.specs.Area.{view, upd, words_at, put_word, copy_of, fill_of, difference_of, first_pair, vector_trial_gradient};
+ghost use Rattle.area.specs.Area.{Vecs, rowwise, CallableAt, GivesEach};
 
 // Vectors 0 to 7, and those of the pairs from FIRST_PAIR on, stay from call to call. 8 to 11 are scratch: whoever reads one has
 // written it in the same call. 12 to 15 are free: no step, replay or opening writes them, so that they pass through every call
@@ -28,7 +29,7 @@ pub const TRIAL_GRADIENT: usize = 6;
 
 pub const DIRECTION: usize = 7;
 
-// Vector 8. The path's direction is written by `cauchy::begin_path` and `cauchy::stop`, and read last by the segment that ends the
+// Vector 8. The path's direction is written by `Path::begin` and `Path::stop` of `cauchy`, and read last by the segment that ends the
 // path. The step is written behind that, by `subspace::steps`; `subspace::moved` reads word i of it last and puts word i of the
 // target in its place, which `subspace::set_direction` reads. (`judge::learn` puts the difference of the points here, for
 // `compact::update`.)
@@ -41,7 +42,7 @@ pub const TARGET: usize = 8;
 // Vector 9. The path's displacement, and behind the path that of the Cauchy point. (`judge::learn`: the difference of the gradients.)
 pub const DISPLACEMENT: usize = 9;
 
-// Vector 10. The bounds met are written by `cauchy::begin_path` and `cauchy::stop`; `cauchy::put_point`, with which the path ends,
+// Vector 10. The bounds met are written by `Path::begin` and `Path::stop` of `cauchy`; `cauchy::put_point`, with which the path ends,
 // reads word i of them last and puts word i of the Cauchy point in its place, which `subspace` reads.
 pub const ACTIVE: usize = 10;
 
@@ -80,17 +81,27 @@ pub fn put(area: &mut [f64], n: usize, vector: usize, i: usize, value: f64)
     area[vector * n + i] = value;
 }
 
+// Each word of the vector in turn becomes what `made` makes of the area and the word's place.
+pub fn set_each<F: Fn(&[f64], usize) -> f64>(area: &mut [f64], n: usize, vector: usize, made: F)
+    requires callable { CallableAt (F.pre made) n (length area.old) }
+    requires room { vector * n + n ≤ length area.old }
+    ensures { (g : ℕ → (ℕ → Float) → Float) → GivesEach (F.post made) n (length area.old) g
+        → view area.new n ≡ rowwise n vector g (view area.old n) }
+{
+    let start = vector * n;
+    for i in 0..n {
+        area[start + i] = made(area, i);
+    }
+}
+
 // Vector `to` becomes vector `from`.
-// Kept: `copy_within` takes 4.4, 6.9 and 11.6 ns at n = 3, 10 and 64, and this loop 3.1, 5.0 and 12.3.
+// Kept: `copy_within` takes 4.4, 6.9 and 11.6 ns at n = 3, 10 and 64, and a loop 3.1, 5.0 and 12.3.
 pub fn copy(area: &mut [f64], n: usize, to: usize, from: usize)
     requires { (to * n + n ≤ length area.old) × (from * n + n ≤ length area.old) }
     ensures { view area.new n ≡ copy_of to from (view area.old n) }
 {
-    let to_start = to * n;
-    let from_start = from * n;
-    for i in 0..n {
-        area[to_start + i] = area[from_start + i];
-    }
+    let start = from * n;
+    set_each(area, n, to, |area, i| area[start + i]);
 }
 
 // Each word of the vector becomes the value.
@@ -111,29 +122,19 @@ pub fn store(area: &mut [f64], n: usize, vector: usize, values: &[f64])
     area[start..start + n].copy_from_slice(values);
 }
 
-// n words from `from` on, as the trial's gradient.
-// Kept: a loop over `iter_mut().zip(..)` has no proof, since nothing is known of what a slice holds once that iterator is given up.
-pub fn store_gradient(area: &mut [f64], n: usize, words: &[u64], from: usize)
-    requires { (first_pair * n ≤ length area.old) × (from + n ≤ length words.now) }
-    ensures { view area.new n ≡ upd (view area.old n) vector_trial_gradient (map to_float (take n (drop from words.now))) }
-{
-    for i in 0..n {
-        area[TRIAL_GRADIENT * n + i] = float::word_to_float(words[from + i]);
-    }
-}
-
 // Vector `to` becomes vector `left` less vector `right`.
-// Kept: the three stand in one slice and may be the same, so that none can be lent for writing beside the others.
 pub fn difference(area: &mut [f64], n: usize, to: usize, left: usize, right: usize)
     requires { (to * n + n ≤ length area.old) × (left * n + n ≤ length area.old) × (right * n + n ≤ length area.old) }
     ensures { view area.new n ≡ difference_of n to left right (view area.old n) }
 {
-    let to_start = to * n;
     let left_start = left * n;
     let right_start = right * n;
-    for i in 0..n {
-        area[to_start + i] = area[left_start + i] - area[right_start + i];
-    }
+    set_each(
+        area,
+        n,
+        to,
+        |area, i| area[left_start + i] - area[right_start + i],
+    );
 }
 
 // The product of vectors `left` and `right`, from the left and from -0.0.

@@ -285,7 +285,7 @@ found_length (suc n) b x g =
 
 -- ---- a break read off the vector
 
-get_any : (bs : List Break) (i : ℕ) (c d : Break) → i < length bs → get_or bs i c ≡ get_or bs i d
+pub get_any : {A : Type 0} (bs : List A) (i : ℕ) (c d : A) → i < length bs → get_or bs i c ≡ get_or bs i d
 get_any [] i c d h = absurd (omega arith)
 get_any (b ∷ bs) zero c d h = refl
 get_any (b ∷ bs) (suc i) c d h = get_any bs i c d (le_of_suc-le-suc h)

@@ -2,15 +2,21 @@
 use mathlib.Core.Path.{◌≡◌, refl, sym, ap, ◌∙◌}
 use mathlib.Core.Bool.{Bool, true, false, cond, ◌&&◌}
 use mathlib.Core.List.{List}
-use Rattle.std.specs.Prelude.{None, Some}
+use Rattle.std.specs.Prelude.{Option, None, Some}
+use Rattle.std.specs.Borrow.{Bor}
 use Prim.Native.Nat.{ℕ, zero, suc, ◌+◌, ◌-◌, ◌*◌, ◌≤◌, ◌<◌}
 use native.Mathlib.Omega.{arith}
 use borrow.Author.Tests.{not-true, not-false}
-use lib.ListN.{length, get_or, take, drop}
-use lib.Seq.{take-suc, take_all}
+use lib.ListN.{length, get_or, take, drop, length-drop}
+use lib.Seq.{take-suc, take_all, get_or-drop}
 use lib.Ieee as Ieee
 use Rattle.std.specs.List.{list_all}
 use Rattle.std.proofs.lemmas.List.Recursion.{and_push}
+use Rattle.std.specs.declared.iter.Skip.{Skip}
+use Rattle.std.specs.Iterator.Adapters.{skip_source, skip_count, skip_steps}
+use Rattle.std.proofs.lemmas.Iterator.{YieldsList}
+use Rattle.std.proofs.lemmas.Iterator.Adapters.{YieldsList-from_skip}
+use Rattle.std.proofs.lemmas.Iterator.Consumers.{YieldsList-at}
 use lib.Ieee.{Float, nan}
 use Rattle.definition.specs.Number.{minus, zero64}
 use Rattle.definition.specs.Vector.{fold_to, word, all_finite}
@@ -25,7 +31,7 @@ use Rattle.cauchy.specs.declared.Breaks.{Breaks}
 use Rattle.cauchy.specs.declared.Path.{Path}
 use Rattle.cauchy.specs.State.{no_break_time, break_of, break_list, Listed, velocity_in, bound_in}
 use Rattle.cauchy.specs.State.{point_in, path_of, travelled_of, Travels, Begins, PathPoint}
-use Rattle.cauchy.proofs.Order.{words-view, breaks_length, break_get}
+use Rattle.cauchy.proofs.Order.{words-view, get_any, breaks_length, break_get}
 
 -- ---- whether it stands still
 
@@ -55,11 +61,13 @@ bounds_kept k = λ i. record { lower = k.low vector_lower (omega arith) i; upper
 
 -- ---- the start
 
-pub begins : (n : ℕ) (v : Vecs) {v₁ v₂ v₃ : Vecs} {t : Float} → v₁ ≡ rowwise n vector_velocity (λ i w. velocity_in w) v → v₂ ≡ fill_of n vector_displacement zero64 v₁
-    → t ≡ nan → v₃ ≡ fill_of n vector_active t v₂ → Begins n v (record { previous = zero64; event = 0 }) v₃
+pub begins : (n : ℕ) (b : Bor Breaks) (v : Vecs) {v₁ v₂ v₃ : Vecs} {t : Float} → v₁ ≡ rowwise n vector_velocity (λ i w. velocity_in w) v
+    → v₂ ≡ fill_of n vector_displacement zero64 v₁ → t ≡ nan → v₃ ≡ fill_of n vector_active t v₂
+    → Begins n b.now v (record { breaks = b; previous = zero64; event = 0 }) v₃
 unfolding rowwise fill_of
-begins n v d e t f = record {
+begins n b v d e t f = record {
   is = rw (f, t, e, d) refl;
+  breaks = refl;
   kept =
       rw (f, e, d)
       (scratch_upd _ _ (omega arith) (omega arith) (scratch_upd _ _ (omega arith) (omega arith) (scratch_upd _ _ (omega arith) (omega arith) scratch_refl)));
@@ -71,7 +79,8 @@ given_is : (ok : Bool) (v : List Float) → given ok v ≡ cond ok (Some v) None
 given_is true v = refl
 given_is false v = refl
 
-pub points : (n : ℕ) (v : Vecs) {v₁ : Vecs} {ok : Bool} → v₁ ≡ rowwise n vector_cauchy (λ i w. point_in w) v → ok ≡ all_finite n (v₁ vector_cauchy) → PathPoint n v ok v₁
+pub points : (n : ℕ) (v : Vecs) {v₁ : Vecs} {ok : Bool} → v₁ ≡ rowwise n vector_cauchy (λ i w. point_in w) v → ok ≡ all_finite n (v₁ vector_cauchy)
+    → PathPoint n v ok v₁
 unfolding rowwise point_on_path
 points n v {v₁} {ok} e f = record {
   is = λ p. given_is ok (v₁ vector_cauchy) ∙ rw (f, e) refl;
@@ -82,13 +91,15 @@ points n v {v₁} {ok} e f = record {
 
 pub stops : (a : List Float) (n i : ℕ) (p : Path) {bound x : Float} {v₁ v₂ v₃ : Vecs} → i < n → bound ≡ bound_in (words_at a n i) → x ≡ words_at a n i vector_x
     → v₁ ≡ put_word (view a n) vector_velocity i zero64 → v₂ ≡ put_word v₁ vector_displacement i (minus bound x) → v₃ ≡ put_word v₂ vector_active i bound
-    → Travels (stopped (bounds_of (view a n)) (view a n vector_x) i) p (view a n) (record { previous = p.previous; event = p.event + 1 }) v₃
+    → Travels (stopped (bounds_of (view a n)) (view a n vector_x) i) p (view a n)
+    (record { breaks = p.breaks; previous = p.previous; event = p.event + 1 }) v₃
 stops a n i p {bound} {x} h b y d e f =
     let w = words-view a n i h in
     let c : bound ≡ bound_in (λ (q : ℕ). word (view a n q) i) = b ∙ ap bound_in w in
     let z : x ≡ word (view a n vector_x) i = y ∙ ap (λ (g : ℕ → Float). g vector_x) w in
     record {
       is = rw (f, e, d, c, z) refl;
+      breaks = refl;
       kept =
           rw (f, e, d) (scratch_upd _ _ (omega arith) (omega arith)
           (scratch_upd _ _ (omega arith) (omega arith) (scratch_upd _ _ (omega arith) (omega arith) scratch_refl)));
@@ -114,20 +125,29 @@ module _ (b : Bounds) (x : List Float) (bs : List Break) (t : Float) (k : ℕ) (
 pub record Stopping (b : Breaks) (t : Float) (p₀ : Path) (a₀ : Vecs) (p : Path) (a : Vecs) : Type 0 where
   pub is : stop_all (length b.list.items - p.event) (bounds_of a₀) (a₀ vector_x) (break_list b) t (path_of p a)
       ≡ stop_all (length b.list.items - p₀.event) (bounds_of a₀) (a₀ vector_x) (break_list b) t (path_of p₀ a₀)
+  pub breaks : p.breaks.now ≡ p₀.breaks.now
   pub kept : ScratchOnly a₀ a
 
 -- past the last break, and before one at another time
 pub stopping_past : {b : Breaks} {t : Float} {p₀ : Path} {a₀ : Vecs} {p : Path} {a : Vecs} → Stopping b t p₀ a₀ p a → length b.list.items ≤ p.event
     → Travels (stop_all (length b.list.items - p₀.event) (bounds_of a₀) (a₀ vector_x) (break_list b) t) p₀ a₀ p a
 stopping_past {b} {t} {p₀} {a₀} {p} {a} s h =
-    record { is = sym (stop_past (bounds_of a₀) (a₀ vector_x) (break_list b) t (length b.list.items) (path_of p a) h) ∙ s.is; kept = s.kept }
+    record {
+      is = sym (stop_past (bounds_of a₀) (a₀ vector_x) (break_list b) t (length b.list.items) (path_of p a) h) ∙ s.is;
+      breaks = s.breaks;
+      kept = s.kept;
+    }
 
 pub stopping_rest : {n : ℕ} {b : Breaks} {t : Float} {p₀ : Path} {a₀ : Vecs} {p : Path} {a : Vecs} {k : BreakTime} → Listed n b → Stopping b t p₀ a₀ p a
     → p.event < length b.list.items → k ≡ get_or b.list.items p.event no_break_time → Ieee.eq k.time t ≡ false
     → Travels (stop_all (length b.list.items - p₀.event) (bounds_of a₀) (a₀ vector_x) (break_list b) t) p₀ a₀ p a
 stopping_rest {n} {b} {t} {p₀} {a₀} {p} {a} {k} l s h e f =
     let g : get_or (break_list b) p.event no_break ≡ break_of k = break_get b p.event h ∙ ap break_of (sym e) in
-    record { is = sym (stop_rest (bounds_of a₀) (a₀ vector_x) (break_list b) t (length b.list.items) (path_of p a) h (rw g f)) ∙ s.is; kept = s.kept }
+    record {
+      is = sym (stop_rest (bounds_of a₀) (a₀ vector_x) (break_list b) t (length b.list.items) (path_of p a) h (rw g f)) ∙ s.is;
+      breaks = s.breaks;
+      kept = s.kept;
+    }
 
 pub stopping_more : {n : ℕ} {b : Breaks} {t : Float} {p₀ : Path} {a₀ : Vecs} {p : Path} {a : Vecs} {k : BreakTime} {q : Path} {c : Vecs} → Listed n b
     → Stopping b t p₀ a₀ p a
@@ -146,6 +166,7 @@ stopping_more {n} {b} {t} {p₀} {a₀} {p} {a} {k} {q} {c} l s h e f r =
           (sym g)
           ∙ sym (stop_next (bounds_of a₀) (a₀ vector_x) (break_list b) t (length b.list.items) (path_of p a) h (rw g f))
           ∙ s.is;
+      breaks = r.breaks ∙ s.breaks;
       kept = scratch_trans s.kept r.kept;
     }
 
@@ -158,10 +179,24 @@ pub not_at_time : (x y : Float) → Ieee.ne x y ≡ true → Ieee.eq x y ≡ fal
 unfolding Ieee.ne
 not_at_time x y e = not-true (Ieee.eq x y) e
 
--- the break that is read off the lent list
-pub entry_is : {b : Breaks} {list : List BreakTime} {e : ℕ} (p : Path) {k : BreakTime} → list ≡ b.list.items → p.event ≡ e → e < length list
-    → k ≡ get_or list e no_break_time → (p.event < length b.list.items) × (k ≡ get_or b.list.items p.event no_break_time)
-entry_is {b} {list} {e} p f g h r = (rw (← f, g) h, rw (← f, g) r)
+-- the breaks behind the first n, as a loop goes over them
+pub breaks_behind : {S : Type 0} {steps : S → Option (Bor BreakTime) → S → Type 0} {all : S} {rest start : Skip S} {list : List BreakTime} (n : ℕ)
+    → YieldsList steps (λ x. x.now) all list → skip_source rest ≡ all → skip_count rest ≡ n → start ≡ rest
+    → YieldsList (skip_steps steps) (λ x. x.now) start (drop n list)
+breaks_behind n road source count same = YieldsList-from_skip n (YieldsList-at (ap skip_source same ∙ source) road) (ap skip_count same ∙ count)
+
+-- the break at a turn of the loop
+pub entry_is : (b : Breaks) (n : ℕ) {k : ℕ} (p : Path) {x : BreakTime} → p.event ≡ n + k
+    → (k < length (drop n b.list.items)) × (x ≡ get_or (drop n b.list.items) k x)
+    → (p.event < length b.list.items) × (x ≡ get_or b.list.items p.event no_break_time)
+entry_is b n {k} p {x} e t =
+    let items = b.list.items in
+    let below : p.event < length items = omega (arith, t.0, length-drop n items) in
+    (below, t.1 ∙ get_or-drop n items k x ∙ ap (λ (i : ℕ). get_or items i x) (sym e) ∙ get_any items p.event x no_break_time below)
+
+-- and past the last
+pub none_left : (b : Breaks) (n : ℕ) {k : ℕ} (p : Path) → p.event ≡ n + k → k ≡ length (drop n b.list.items) → length b.list.items ≤ p.event
+none_left b n p e l = omega (arith, length-drop n b.list.items)
 
 pub stopped_event : {F : D.Path → D.Path} {p : Path} {a : Vecs} {q : Path} {c : Vecs} → Travels F p a q c → q.event ≡ (F (path_of p a)).event
 stopped_event r = ap (λ (d : D.Path). d.event) r.is
@@ -170,11 +205,12 @@ stopped_event r = ap (λ (d : D.Path). d.event) r.is
 
 pub passes : {n : ℕ} {b : Breaks} {t : Float} {p : Path} {v v₁ : Vecs} {q : Path} {v₂ : Vecs} → Listed n b → v₁ ≡ travelled_of n (minus t p.previous) v
     → Travels (stop_all (length b.list.items - p.event) (bounds_of v₁) (v₁ vector_x) (break_list b) t) p v₁ q v₂
-    → Travels (passed n (bounds_of v) (v vector_x) (break_list b) t) p v (record { previous = t; event = q.event }) v₂
+    → Travels (passed n (bounds_of v) (v vector_x) (break_list b) t) p v (record { breaks = q.breaks; previous = t; event = q.event }) v₂
 unfolding passed rowwise
 passes {n} {b} {t} {p} {v} {v₁} {q} {v₂} l e r =
     let m : length (break_list b) ≡ length b.list.items = breaks_length b in
     record {
       is = ap (reached t) r.is ∙ rw (e, m) refl;
+      breaks = r.breaks;
       kept = scratch_trans (rw e (scratch_upd _ _ (omega arith) (omega arith) scratch_refl)) r.kept;
     }

@@ -1,5 +1,5 @@
 -- Laws of segments: how each one ends, and the walk over them. Assumes nothing.
-use mathlib.Core.Path.{◌≡◌, refl, sym, ap, ◌∙◌}
+use mathlib.Core.Path.{◌≡◌, refl, sym, ap, subst, ◌∙◌}
 use mathlib.Core.Bool.{Bool, true, false, not, ◌&&◌}
 use mathlib.Core.List.{List}
 use Rattle.std.specs.Prelude.{Option, None, Some}
@@ -18,14 +18,15 @@ use Rattle.definition.specs.Problem.{Bounds}
 use Rattle.definition.specs.Compact as C
 use Rattle.definition.specs.Geometry as D
 use Rattle.definition.specs.Geometry.{Break, no_break, point_on_path, travelled, passed, along, by_slope, segment, walk, still, generalized_cauchy}
-use Rattle.area.specs.Area.{Vecs, bounds_of, upd, rowwise, given, first_free, ScratchOnly, vector_x, vector_g, vector_velocity, vector_displacement, vector_cauchy, vector_product_d, vector_product_z}
+use Rattle.area.specs.Area.{Vecs, bounds_of, upd, rowwise, given, first_free, ScratchOnly, vector_x, vector_g, vector_velocity, vector_displacement}
+use Rattle.area.specs.Area.{vector_cauchy, vector_product_d, vector_product_z}
 use Rattle.area.proofs.Laws.{scratch_refl, scratch_trans, scratch_upd}
 use Rattle.compact.specs.declared.Shape.{Shape}
 use Rattle.compact.specs.State.{compact_of, Multiplied}
 use Rattle.compact.proofs.Models.{compact_kept, compact_upd}
 use Rattle.cauchy.specs.declared.Breaks.{Breaks}
 use Rattle.cauchy.specs.declared.Path.{Path}
-use Rattle.cauchy.specs.State.{break_list, Found, path_of, travelled_of, Travels, Begins, Points, PathPoint, segment_of, Segments}
+use Rattle.cauchy.specs.State.{break_list, Found, path_of, travelled_of, Travels, Begins, Points, PathPoint, segment_of, LeadsAlong, Segments}
 use Rattle.cauchy.proofs.Paths.{bounds_kept}
 
 -- ---- with a slope below zero and a curvature above
@@ -44,25 +45,31 @@ module _ (n : ℕ) (b : Bounds) (x : List Float) (bs : List Break) (p : D.Path) 
   along_on e f = rw (e, f) refl
 
 module _ (n : ℕ) (b : Breaks) (p : Path) (next m : Float) {v : Vecs} {ok : Bool} where
-  pub along_fails : ok ≡ finite m → not ok ≡ true → Segments (along n (bounds_of v) (v vector_x) (break_list b) (path_of p v) next m) v (S.Break false) v
-  along_fails e f = record { is = sym (along_none n (bounds_of v) (v vector_x) (break_list b) (path_of p v) next m (sym e ∙ not-true ok f)); kept = scratch_refl }
+  pub along_fails : ok ≡ finite m → not ok ≡ true → Segments (along n (bounds_of v) (v vector_x) (break_list b) (path_of p v) next m) b v (S.Break false) v
+  along_fails e f = record {
+    is = sym (along_none n (bounds_of v) (v vector_x) (break_list b) (path_of p v) next m (sym e ∙ not-true ok f));
+    breaks = tt;
+    kept = scratch_refl;
+  }
 
   pub along_ends : {v₁ v₂ : Vecs} {r : Bool} → ok ≡ finite m → not ok ≡ false → Ieee.lt m (minus next p.previous) ≡ true → v₁ ≡ travelled_of n m v
       → PathPoint n v₁ r v₂
-      → Segments (along n (bounds_of v) (v vector_x) (break_list b) (path_of p v) next m) v (S.Break r) v₂
+      → Segments (along n (bounds_of v) (v vector_x) (break_list b) (path_of p v) next m) b v (S.Break r) v₂
   unfolding rowwise
   along_ends {v₁} {v₂} {r} e f l t q = record {
     is =
         ap D.Segment.ended (q.is p ∙ ap (λ (u : Vecs). point_on_path n (bounds_of u) (u vector_x) (path_of p u)) t)
         ∙ sym (along_in n (bounds_of v) (v vector_x) (break_list b) (path_of p v) next m (sym e ∙ not-false ok f) l);
+    breaks = tt;
     kept = scratch_trans (rw t (scratch_upd _ _ (omega arith) (omega arith) scratch_refl)) q.kept;
   }
 
-  pub along_leads : {q : Path} {v₁ : Vecs} → ok ≡ finite m → not ok ≡ false → Ieee.lt m (minus next p.previous) ≡ false
+  pub along_leads : {q : Path} {v₁ : Vecs} → p.breaks.now ≡ b → ok ≡ finite m → not ok ≡ false → Ieee.lt m (minus next p.previous) ≡ false
       → Travels (passed n (bounds_of v) (v vector_x) (break_list b) next) p v q v₁
-      → Segments (along n (bounds_of v) (v vector_x) (break_list b) (path_of p v) next m) v (S.Continue q) v₁
-  along_leads e f l q = record {
+      → Segments (along n (bounds_of v) (v vector_x) (break_list b) (path_of p v) next m) b v (S.Continue q) v₁
+  along_leads d e f l q = record {
     is = ap D.Segment.onward q.is ∙ sym (along_on n (bounds_of v) (v vector_x) (break_list b) (path_of p v) next m (sym e ∙ not-false ok f) l);
+    breaks = q.breaks ∙ d;
     kept = q.kept;
   }
 
@@ -85,24 +92,30 @@ module _ (n : ℕ) (b : Bounds) (x : List Float) (bs : List Break) (p : D.Path) 
 
 module _ (n : ℕ) (b : Breaks) (p : Path) (slope curvature : Float) {v : Vecs} where
   pub slope_fails : (finite slope && finite curvature && Ieee.lt zero64 curvature) ≡ false
-      → Segments (by_slope n (bounds_of v) (v vector_x) (break_list b) (path_of p v) slope curvature) v (S.Break false) v
-  slope_fails e = record { is = sym (slope_none n (bounds_of v) (v vector_x) (break_list b) (path_of p v) slope curvature e); kept = scratch_refl }
+      → Segments (by_slope n (bounds_of v) (v vector_x) (break_list b) (path_of p v) slope curvature) b v (S.Break false) v
+  slope_fails e = record {
+    is = sym (slope_none n (bounds_of v) (v vector_x) (break_list b) (path_of p v) slope curvature e);
+    breaks = tt;
+    kept = scratch_refl;
+  }
 
   pub slope_ends : {r : Bool} {v₁ : Vecs} → (finite slope && finite curvature && Ieee.lt zero64 curvature) ≡ true → Ieee.le zero64 slope ≡ true
       → PathPoint n v r v₁
-      → Segments (by_slope n (bounds_of v) (v vector_x) (break_list b) (path_of p v) slope curvature) v (S.Break r) v₁
+      → Segments (by_slope n (bounds_of v) (v vector_x) (break_list b) (path_of p v) slope curvature) b v (S.Break r) v₁
   slope_ends e f q = record {
     is = ap D.Segment.ended (q.is p) ∙ sym (slope_point n (bounds_of v) (v vector_x) (break_list b) (path_of p v) slope curvature e f);
+    breaks = tt;
     kept = q.kept;
   }
 
   pub slope_goes : {next : Float} {r : ControlFlow Bool Path} {v₁ : Vecs} → (finite slope && finite curvature && Ieee.lt zero64 curvature) ≡ true
       → Ieee.le zero64 slope ≡ false
       → next ≡ (get_or (break_list b) p.event no_break).time
-      → Segments (along n (bounds_of v) (v vector_x) (break_list b) (path_of p v) next (over (Ieee.neg slope) curvature)) v r v₁
-      → Segments (by_slope n (bounds_of v) (v vector_x) (break_list b) (path_of p v) slope curvature) v r v₁
+      → Segments (along n (bounds_of v) (v vector_x) (break_list b) (path_of p v) next (over (Ieee.neg slope) curvature)) b v r v₁
+      → Segments (by_slope n (bounds_of v) (v vector_x) (break_list b) (path_of p v) slope curvature) b v r v₁
   slope_goes e f t q = record {
     is = q.is ∙ rw t (sym (slope_along n (bounds_of v) (v vector_x) (break_list b) (path_of p v) slope curvature e f));
+    breaks = q.breaks;
     kept = q.kept;
   }
 
@@ -152,34 +165,45 @@ pub product_kept : {h : Shape} {theta : Float} {q : ℕ} {a : Vecs} {ok : Bool} 
 product_kept k r l m = rw r.frame (scratch_upd k _ l m scratch_refl)
 
 module _ (h : Shape) (theta : Float) (b : Breaks) (p : Path) {v : Vecs} {s : Bool} (at : s ≡ still h.n (v vector_velocity)) where
-  pub segment_ends : {r : Bool} {w : Vecs} → s ≡ true → PathPoint h.n v r w → Segments (segment_at h theta b p v) v (S.Break r) w
+  pub segment_ends : {r : Bool} {w : Vecs} → s ≡ true → PathPoint h.n v r w → Segments (segment_at h theta b p v) b v (S.Break r) w
   segment_ends e q = record {
-    is = ap D.Segment.ended (q.is p) ∙ sym (segment_point h.n (bounds_of v) (compact_of h theta v) (v vector_x) (v vector_g) (break_list b) (path_of p v) (sym at ∙ e));
+    is =
+        ap D.Segment.ended (q.is p)
+        ∙ sym (segment_point h.n (bounds_of v) (compact_of h theta v) (v vector_x) (v vector_g) (break_list b) (path_of p v) (sym at ∙ e));
+    breaks = tt;
     kept = q.kept;
   }
 
   module _ {ok₁ : Bool} {v₁ : Vecs} (moves : s ≡ false) (first : Multiplied h theta vector_product_d vector_velocity v ok₁ v₁) where
-    pub segment_fails₁ : not ok₁ ≡ true → Segments (segment_at h theta b p v) v (S.Break false) v₁
+    pub segment_fails₁ : not ok₁ ≡ true → Segments (segment_at h theta b p v) b v (S.Break false) v₁
     segment_fails₁ e = record {
       is =
-          sym (segment_none₁ h.n (bounds_of v) (compact_of h theta v) (v vector_x) (v vector_g) (break_list b) (path_of p v) (sym at ∙ moves) (missed first (not-true ok₁ e)));
+          sym (segment_none₁ h.n (bounds_of v) (compact_of h theta v) (v vector_x) (v vector_g) (break_list b) (path_of p v) (sym at ∙ moves)
+          (missed first (not-true ok₁ e)));
+      breaks = tt;
       kept = product_kept vector_product_d first (omega arith) (omega arith);
     }
 
     module _ {ok₂ : Bool} {v₂ : Vecs} (good : not ok₁ ≡ false) (second : Multiplied h theta vector_product_z vector_displacement v₁ ok₂ v₂) where
       both_kept : ScratchOnly v v₂
-      both_kept = scratch_trans (product_kept vector_product_d first (omega arith) (omega arith)) (product_kept vector_product_z second (omega arith) (omega arith))
+      both_kept =
+          scratch_trans (product_kept vector_product_d first (omega arith) (omega arith))
+          (product_kept vector_product_z second (omega arith) (omega arith))
 
-      pub segment_fails₂ : not ok₂ ≡ true → Segments (segment_at h theta b p v) v (S.Break false) v₂
+      pub segment_fails₂ : not ok₂ ≡ true → Segments (segment_at h theta b p v) b v (S.Break false) v₂
       segment_fails₂ e = record {
-        is = sym (segment_none₂ h.n (bounds_of v) (compact_of h theta v) (v vector_x) (v vector_g) (break_list b) (path_of p v) (v₁ vector_product_d) (sym at ∙ moves)
-            (made first (not-false ok₁ good)) (sym (earlier first) ∙ missed second (not-true ok₂ e)));
+        is =
+            sym (segment_none₂ h.n (bounds_of v) (compact_of h theta v) (v vector_x) (v vector_g) (break_list b) (path_of p v) (v₁ vector_product_d)
+            (sym at ∙ moves) (made first (not-false ok₁ good)) (sym (earlier first) ∙ missed second (not-true ok₂ e)));
+        breaks = tt;
         kept = both_kept;
       }
 
       pub segment_goes : {slope curvature : Float} {r : ControlFlow Bool Path} {w : Vecs} → not ok₂ ≡ false
-          → slope ≡ plus (dot h.n (v₂ vector_g) (v₂ vector_velocity)) (dot h.n (v₂ vector_product_z) (v₂ vector_velocity)) → curvature ≡ dot h.n (v₁ vector_velocity) (v₁ vector_product_d)
-          → Segments (by_slope h.n (bounds_of v₂) (v₂ vector_x) (break_list b) (path_of p v₂) slope curvature) v₂ r w → Segments (segment_at h theta b p v) v r w
+          → slope ≡ plus (dot h.n (v₂ vector_g) (v₂ vector_velocity)) (dot h.n (v₂ vector_product_z) (v₂ vector_velocity))
+          → curvature ≡ dot h.n (v₁ vector_velocity) (v₁ vector_product_d)
+          → Segments (by_slope h.n (bounds_of v₂) (v₂ vector_x) (break_list b) (path_of p v₂) slope curvature) b v₂ r w
+          → Segments (segment_at h theta b p v) b v r w
       segment_goes e f g q =
           let bd = v₁ vector_product_d in
           let bz = v₂ vector_product_z in
@@ -195,6 +219,7 @@ module _ (h : Shape) (theta : Float) (b : Breaks) (p : Path) {v : Vecs} {s : Boo
                 ∙ ap (λ (d : List Float). by_slope n (bounds_of v) (v vector_x) bs (path_of p v) slope_v (dot n d bd)) along
                 ∙ sym (segment_slope n (bounds_of v) (compact_of h theta v) (v vector_x) (v vector_g) bs (path_of p v) bd bz (sym at ∙ moves)
                 (made first (not-false ok₁ good)) (sym (earlier first) ∙ made second (not-false ok₂ e)));
+            breaks = q.breaks;
             kept = scratch_trans both_kept q.kept;
           }
 
@@ -228,6 +253,7 @@ segment_kept h theta b p {a} {v} k =
 -- the path p with the vectors v, and `left` segments more, are on their way from p₀ with a
 pub record Walking (h : Shape) (theta : Float) (b : Breaks) (left₀ : ℕ) (p₀ : Path) (a : Vecs) (left : ℕ) (p : Path) (v : Vecs) : Type 0 where
   pub is : walk_at h theta b a left (D.Segment.onward (path_of p v)) ≡ walk_at h theta b a left₀ (D.Segment.onward (path_of p₀ a))
+  pub breaks : p.breaks.now ≡ b
   pub kept : ScratchOnly a v
 
 -- with no segment left
@@ -241,7 +267,7 @@ walking_stops {h} {theta} {b} {left₀} {p₀} {a} {left} {p} {v} here e = recor
 }
 
 module _ {h : Shape} {theta : Float} {b : Breaks} {left₀ : ℕ} {p₀ : Path} {a : Vecs} {left : ℕ} {p : Path} {v : Vecs} {r : ControlFlow Bool Path} {w : Vecs}
-    (here : Walking h theta b left₀ p₀ a left p v) (next : Segments (segment_at h theta b p v) v r w) (more : ℕ) (one : left ≡ suc more) where
+    (here : Walking h theta b left₀ p₀ a left p v) (next : Segments (segment_at h theta b p v) b v r w) (more : ℕ) (one : left ≡ suc more) where
   -- what one segment makes of the walk
   walking : walk_at h theta b a more (segment_of r w) ≡ walk_at h theta b a left₀ (D.Segment.onward (path_of p₀ a))
   walking =
@@ -250,7 +276,7 @@ module _ {h : Shape} {theta : Float} {b : Breaks} {left₀ : ℕ} {p₀ : Path} 
       ∙ (rw one at here.is)
 
   pub walking_more : (q : Path) → r ≡ S.Continue q → Walking h theta b left₀ p₀ a more q w
-  walking_more q e = record { is = rw e at walking; kept = scratch_trans here.kept next.kept }
+  walking_more q e = record { is = rw e at walking; breaks = subst (LeadsAlong b) e next.breaks; kept = scratch_trans here.kept next.kept }
 
   pub walking_ends : (ok : Bool) → r ≡ S.Break ok → Points (walk_at h theta b a left₀ (D.Segment.onward (path_of p₀ a))) a ok w
   walking_ends ok e = record {
@@ -261,15 +287,15 @@ module _ {h : Shape} {theta : Float} {b : Breaks} {left₀ : ℕ} {p₀ : Path} 
   }
 
 -- the walk from its start
-pub walks : (h : Shape) (theta : Float) {b : Breaks} {p : Path} {v a : Vecs} {ok : Bool} {w : Vecs} → Found h.n v b → Begins h.n v p a
-    → Points (walk_at h theta b a (h.n + 2) (D.Segment.onward (path_of p a))) a ok w
+pub walks : (h : Shape) (theta : Float) {b : Breaks} {p : Path} {v a : Vecs} {ok : Bool} {w : Vecs} → Found h.n v b → Begins h.n b v p a
+    → Points (walk_at h theta p.breaks.now a (h.n + 2) (D.Segment.onward (path_of p a))) a ok w
     → Points (generalized_cauchy h.n (bounds_of v) (compact_of h theta v) (v vector_x) (v vector_g)) v ok w
 unfolding generalized_cauchy
 walks h theta {b} {p} {v} {a} {ok} {w} f s q =
     let two : h.n + 2 ≡ suc (h.n + 1) = omega arith in
     record {
       is =
-          q.is
+          rw s.breaks at q.is
           ∙ ap (λ (k : ℕ). walk_at h theta b a k (D.Segment.onward (path_of p a))) two
           ∙ walk_more h.n (bounds_of a) (compact_of h theta a) (a vector_x) (a vector_g) (break_list b) (h.n + 1) (path_of p a)
           ∙ (λ i. walk (h.n + 1) h.n (bounds_kept s.kept i) (compact_kept h theta v a s.kept.high i) (s.kept.low vector_x (omega arith) i)

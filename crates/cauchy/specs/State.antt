@@ -9,7 +9,8 @@ use Rattle.std.specs.Float.Ieee.Scale.{finite}
 use Rattle.definition.specs.Number.{total_key, total_le, plus, minus, times, over, clamp, zero64, infinity}
 use Rattle.definition.specs.Problem.{most_coordinates}
 use Rattle.definition.specs.Geometry as D
-use Rattle.area.specs.Area.{Vecs, bounds_of, rowwise, given, ScratchOnly, vector_x, vector_g, vector_lower, vector_upper, vector_velocity, vector_displacement, vector_active, vector_cauchy}
+use Rattle.area.specs.Area.{Vecs, bounds_of, rowwise, given, ScratchOnly, vector_x, vector_g, vector_lower, vector_upper}
+use Rattle.area.specs.Area.{vector_velocity, vector_displacement, vector_active, vector_cauchy}
 use Rattle.cauchy.specs.declared.BreakTime.{BreakTime}
 use Rattle.cauchy.specs.declared.Breaks.{Breaks}
 use Rattle.cauchy.specs.declared.Path.{Path}
@@ -109,11 +110,13 @@ point_in w = D.stood_at (w vector_active) (clamp (plus (w vector_x) (w vector_di
 -- r with the vectors b is p with a, taken through F, and only scratch is touched
 pub record Travels (F : D.Path → D.Path) (p : Path) (a : Vecs) (r : Path) (b : Vecs) : Type 0 where
   pub is : path_of r b ≡ F (path_of p a)
+  pub breaks : r.breaks.now ≡ p.breaks.now
   pub kept : ScratchOnly a b
 
--- r with the vectors b is the path before its first segment
-pub record Begins (n : ℕ) (a : Vecs) (r : Path) (b : Vecs) : Type 0 where
+-- r with the vectors b is the path along the breaks x before its first segment
+pub record Begins (n : ℕ) (x : Breaks) (a : Vecs) (r : Path) (b : Vecs) : Type 0 where
   pub is : path_of r b ≡ D.path_start n (bounds_of a) (a vector_x) (a vector_g)
+  pub breaks : r.breaks.now ≡ x
   pub kept : ScratchOnly a b
 
 -- the Cauchy point of b, where ok says that there is one
@@ -131,6 +134,12 @@ abbrev pub segment_of : ControlFlow Bool Path → Vecs → D.Segment
 segment_of (Break ok) v = D.Segment.ended (given ok (v vector_cauchy))
 segment_of (Continue p) v = D.Segment.onward (path_of p v)
 
-pub record Segments (F : D.Segment) (a : Vecs) (r : ControlFlow Bool Path) (b : Vecs) : Type 0 where
+-- where it leads on, it does so along the breaks x
+abbrev pub LeadsAlong : Breaks → ControlFlow Bool Path → Type 0
+LeadsAlong x (Break ok) = Unit
+LeadsAlong x (Continue p) = p.breaks.now ≡ x
+
+pub record Segments (F : D.Segment) (x : Breaks) (a : Vecs) (r : ControlFlow Bool Path) (b : Vecs) : Type 0 where
   pub is : segment_of r b ≡ F
+  pub breaks : LeadsAlong x r
   pub kept : ScratchOnly a b

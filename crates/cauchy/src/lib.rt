@@ -32,9 +32,10 @@ pub struct Breaks {
     pub list: ArrayVec<BreakTime, { problem::MOST_COORDINATES }>,
 }
 
-// The time of the last break passed, and how many are passed.
+// How far the path is gone: the breaks of all coordinates, the time of the last that is passed, and how many are passed.
 #[derive(Clone, Copy)]
-pub struct Path {
+pub struct Path<'a> {
+    pub breaks: &'a Breaks,
     pub previous: f64,
     pub event: usize,
 }
@@ -187,16 +188,6 @@ impl Breaks {
             self.insert(BreakTime { time, coordinate });
         }
     }
-
-    // The time of the next break: infinity past the last.
-    fn next_time(&self, event: usize) -> f64
-        ensures { result ≡ (get_or (break_list self.now) event no_break).time }
-    {
-        if event < self.list.len() {
-            return break_at(self.list.as_slice(), event).time;
-        }
-        float::infinity()
-    }
 }
 
 // The finite break times of all coordinates.
@@ -214,113 +205,44 @@ fn find_breaks(area: &[f64], n: usize) -> Breaks
 // ---- the path
 
 // The direction of every coordinate, in its vector.
-// Kept: an index. What is read and what is written stand in one lent slice.
 fn set_velocity(area: &mut [f64], n: usize)
     requires { first_pair * n ≤ length area.old }
     ensures { view area.new n ≡ rowwise n vector_velocity (λ i w. velocity_in w) (view area.old n) }
 {
-    let start = area::VELOCITY * n;
-    for i in 0..n {
-        area[start + i] = coordinate_at(area, n, i).velocity();
-    }
-}
-
-// The path before its first segment.
-fn begin_path(area: &mut [f64], n: usize) -> Path
-    requires { first_pair * n ≤ length area.old }
-    ensures { Begins n (view area.old n) result (view area.new n) }
-{
-    set_velocity(area, n);
-    area::fill(area, n, area::DISPLACEMENT, 0.0);
-    // Kept: the bounds met stand in a vector of the lent area, and a NaN, which no accepted bound is, says that none is met.
-    area::fill(area, n, area::ACTIVE, f64::NAN);
-    Path {
-        previous: 0.0,
-        event: 0,
-    }
+    area::set_each(
+        area,
+        n,
+        area::VELOCITY,
+        |area, i| coordinate_at(area, n, i).velocity(),
+    );
 }
 
 // The displacement after that much time more.
-// Kept: an index. What is read and what is written stand in one lent slice.
 fn travel(area: &mut [f64], n: usize, time: f64)
     requires { first_pair * n ≤ length area.old }
     ensures { view area.new n ≡ travelled_of n time (view area.old n) }
 {
-    let to_start = area::DISPLACEMENT * n;
-    let from_start = area::VELOCITY * n;
-    for i in 0..n {
-        area[to_start + i] += time * area[from_start + i];
-    }
-}
-
-// Coordinate i stops at its bound.
-fn stop(area: &mut [f64], n: usize, i: usize, path: Path) -> Path
-    requires { (first_pair * n ≤ length area.old) × (i < n) × (path.event < most_coordinates) }
-    ensures { let v = view area.old n in Travels (stopped (bounds_of v) (v vector_x) i) path v result (view area.new n) }
-{
-    let bound = bound_met(
-        area[area::VELOCITY * n + i],
-        area[area::LOWER * n + i],
-        area[area::UPPER * n + i],
+    area::set_each(
+        area,
+        n,
+        area::DISPLACEMENT,
+        |area, i| area[area::DISPLACEMENT * n + i] + time * area[area::VELOCITY * n + i],
     );
-    let x = area[area::X * n + i];
-    area::put(area, n, area::VELOCITY, i, 0.0);
-    area::put(area, n, area::DISPLACEMENT, i, bound - x);
-    area::put(area, n, area::ACTIVE, i, bound);
-    Path {
-        event: path.event + 1,
-        ..path
-    }
-}
-
-// Every break at the time stops its coordinate.
-fn stop_all(area: &mut [f64], n: usize, breaks: &Breaks, time: f64, path: Path) -> Path
-    requires { (first_pair * n ≤ length area.old) × Listed n breaks.now }
-    ensures { let v = view area.old n in
-        Travels (stop_all (length breaks.now.list.items - path.event) (bounds_of v) (v vector_x) (break_list breaks.now) time) path v result (view area.new n) }
-{
-    let list = breaks.list.as_slice();
-    let mut reached = path;
-    for event in path.event..list.len() {
-        let entry = break_at(list, event);
-        if entry.time != time {
-            return reached;
-        }
-        reached = stop(area, n, entry.coordinate, reached);
-    }
-    reached
-}
-
-// Past the segment that ends at the time.
-fn pass(area: &mut [f64], n: usize, breaks: &Breaks, time: f64, path: Path) -> Path
-    requires { (first_pair * n ≤ length area.old) × Listed n breaks.now }
-    ensures { let v = view area.old n in
-        Travels (passed n (bounds_of v) (v vector_x) (break_list breaks.now) time) path v result (view area.new n) }
-{
-    travel(area, n, time - path.previous);
-    let reached = stop_all(area, n, breaks, time, path);
-    Path {
-        previous: time,
-        ..reached
-    }
 }
 
 // The point of every coordinate.
-// Kept: an index. What is read and what is written stand in one lent slice.
 fn put_point(area: &mut [f64], n: usize)
     requires { first_pair * n ≤ length area.old }
     ensures { view area.new n ≡ rowwise n vector_cauchy (λ i w. point_in w) (view area.old n) }
 {
-    let start = area::CAUCHY * n;
-    for i in 0..n {
-        let x = area[area::X * n + i] + area[area::DISPLACEMENT * n + i];
-        area[start + i] = point(
+    area::set_each(area, n, area::CAUCHY, |area, i| {
+        point(
             area[area::ACTIVE * n + i],
-            x,
+            area[area::X * n + i] + area[area::DISPLACEMENT * n + i],
             area[area::LOWER * n + i],
             area[area::UPPER * n + i],
-        );
-    }
+        )
+    });
 }
 
 // `point_on_path`, if it is finite.
@@ -344,57 +266,11 @@ fn still(area: &[f64], n: usize) -> bool
     area[start..start + n].iter().all(|x| *x == 0.0)
 }
 
-// With a slope below zero and a curvature above: a minimum inside the segment, or on to its end.
-fn along(
-    area: &mut [f64],
-    n: usize,
-    breaks: &Breaks,
-    path: Path,
-    next: f64,
-    minimizer: f64,
-) -> ControlFlow<bool, Path>
-    requires { (first_pair * n ≤ length area.old) × Listed n breaks.now }
-    ensures { let v = view area.old n in
-        Segments (along_of n (bounds_of v) (v vector_x) (break_list breaks.now) (path_of path v) next minimizer) v result (view area.new n) }
-{
-    if !float::is_finite(minimizer) {
-        return ControlFlow::Break(false);
-    }
-    if minimizer < next - path.previous {
-        travel(area, n, minimizer);
-        return ControlFlow::Break(point_on_path(area, n));
-    }
-    ControlFlow::Continue(pass(area, n, breaks, next, path))
-}
-
 // Whether slope and curvature are finite, and the curvature lies above zero.
 fn is_usable(slope: f64, curvature: f64) -> bool
     ensures { result ≡ (finite slope && finite curvature && Ieee.lt zero64 curvature) }
 {
     float::is_finite(slope) && float::is_finite(curvature) && 0.0 < curvature
-}
-
-// The curvature must lie above zero; a slope that does not fall ends the path.
-fn by_slope(
-    area: &mut [f64],
-    n: usize,
-    breaks: &Breaks,
-    path: Path,
-    slope: f64,
-    curvature: f64,
-) -> ControlFlow<bool, Path>
-    requires { (first_pair * n ≤ length area.old) × Listed n breaks.now }
-    ensures { let v = view area.old n in
-        Segments (by_slope n (bounds_of v) (v vector_x) (break_list breaks.now) (path_of path v) slope curvature) v result (view area.new n) }
-{
-    if !is_usable(slope, curvature) {
-        return ControlFlow::Break(false);
-    }
-    if 0.0 <= slope {
-        return ControlFlow::Break(point_on_path(area, n));
-    }
-    let next = breaks.next_time(path.event);
-    along(area, n, breaks, path, next, -slope / curvature)
 }
 
 // The slope along the path, with B z in its vector.
@@ -407,33 +283,151 @@ fn slope(area: &[f64], n: usize) -> f64
     first + second
 }
 
-// One segment of the path: it ends the path, with the Cauchy point in its vector or without, or leads on.
-fn segment_from(
-    area: &mut [f64],
-    model: &compact::Model,
-    breaks: &Breaks,
-    path: Path,
-) -> ControlFlow<bool, Path>
-    requires { let h = model.now.shape in
-        Sound h (length area.old) × Modelled model.now (view area.old h.n) × Listed h.n breaks.now }
-    ensures { let h = model.now.shape in
-        let v = view area.old h.n in
-        Segments (segment_of h.n (bounds_of v) (compact_of h model.now.theta v) (v vector_x) (v vector_g) (break_list breaks.now) (path_of path v)) v result
-        (view area.new h.n) }
-{
-    let n = model.shape.n;
-    if still(area, n) {
-        return ControlFlow::Break(point_on_path(area, n));
+// ---- along the path
+
+impl<'a> Path<'a> {
+    // The path before its first segment.
+    // Kept: the bounds met stand in a vector of the lent area, and a NaN, which no accepted bound is, says that none is met.
+    fn begin(breaks: &'a Breaks, area: &mut [f64], n: usize) -> Path<'a>
+        requires { first_pair * n ≤ length area.old }
+        ensures { Begins n breaks.now (view area.old n) result (view area.new n) }
+    {
+        set_velocity(area, n);
+        area::fill(area, n, area::DISPLACEMENT, 0.0);
+        area::fill(area, n, area::ACTIVE, f64::NAN);
+        Path {
+            breaks,
+            previous: 0.0,
+            event: 0,
+        }
     }
-    if !compact::product(area, model, area::PRODUCT_D, area::VELOCITY) {
-        return ControlFlow::Break(false);
+
+    // Coordinate i stops at its bound.
+    fn stop(self, area: &mut [f64], n: usize, i: usize) -> Path<'a>
+        requires { (first_pair * n ≤ length area.old) × (i < n) × (self.event < most_coordinates) }
+        ensures { let v = view area.old n in Travels (stopped (bounds_of v) (v vector_x) i) self.entry v result (view area.new n) }
+    {
+        let bound = bound_met(
+            area[area::VELOCITY * n + i],
+            area[area::LOWER * n + i],
+            area[area::UPPER * n + i],
+        );
+        let x = area[area::X * n + i];
+        area::put(area, n, area::VELOCITY, i, 0.0);
+        area::put(area, n, area::DISPLACEMENT, i, bound - x);
+        area::put(area, n, area::ACTIVE, i, bound);
+        Path {
+            event: self.event + 1,
+            ..self
+        }
     }
-    let curvature = area::dot(area, n, area::VELOCITY, area::PRODUCT_D);
-    if !compact::product(area, model, area::PRODUCT_Z, area::DISPLACEMENT) {
-        return ControlFlow::Break(false);
+
+    // The time of the next break: infinity past the last.
+    fn next_time(self) -> f64
+        ensures { result ≡ (get_or (break_list self.entry.breaks.now) self.entry.event no_break).time }
+    {
+        let list = self.breaks.list.as_slice();
+        if self.event < list.len() {
+            return break_at(list, self.event).time;
+        }
+        float::infinity()
     }
-    let slope = slope(area, n);
-    by_slope(area, n, breaks, path, slope, curvature)
+
+    // Every break at the time stops its coordinate.
+    fn stop_all(self, area: &mut [f64], n: usize, time: f64) -> Path<'a>
+        requires { (first_pair * n ≤ length area.old) × Listed n self.breaks.now }
+        ensures { let v = view area.old n in let b = self.entry.breaks.now in
+            Travels (stop_all (length b.list.items - self.entry.event) (bounds_of v) (v vector_x) (break_list b) time) self.entry v result
+            (view area.new n) }
+    {
+        let mut reached = self;
+        for entry in self.breaks.list.as_slice().iter().skip(self.event) {
+            if entry.time != time {
+                return reached;
+            }
+            reached = reached.stop(area, n, entry.coordinate);
+        }
+        reached
+    }
+
+    // Past the segment that ends at the time.
+    fn pass(self, area: &mut [f64], n: usize, time: f64) -> Path<'a>
+        requires { (first_pair * n ≤ length area.old) × Listed n self.breaks.now }
+        ensures { let v = view area.old n in let b = self.entry.breaks.now in
+            Travels (passed n (bounds_of v) (v vector_x) (break_list b) time) self.entry v result (view area.new n) }
+    {
+        travel(area, n, time - self.previous);
+        let reached = self.stop_all(area, n, time);
+        Path {
+            previous: time,
+            ..reached
+        }
+    }
+
+    // With a slope below zero and a curvature above: a minimum inside the segment, or on to its end.
+    fn along(self, area: &mut [f64], n: usize, minimizer: f64) -> ControlFlow<bool, Path<'a>>
+        requires { (first_pair * n ≤ length area.old) × Listed n self.breaks.now }
+        ensures { let v = view area.old n in let b = self.entry.breaks.now in
+            let next = (get_or (break_list b) self.entry.event no_break).time in
+            Segments (along_of n (bounds_of v) (v vector_x) (break_list b) (path_of self.entry v) next minimizer) b v result
+            (view area.new n) }
+    {
+        let next = self.next_time();
+        if !float::is_finite(minimizer) {
+            return ControlFlow::Break(false);
+        }
+        if minimizer < next - self.previous {
+            travel(area, n, minimizer);
+            return ControlFlow::Break(point_on_path(area, n));
+        }
+        ControlFlow::Continue(self.pass(area, n, next))
+    }
+
+    // The curvature must lie above zero; a slope that does not fall ends the path.
+    fn by_slope(
+        self,
+        area: &mut [f64],
+        n: usize,
+        slope: f64,
+        curvature: f64,
+    ) -> ControlFlow<bool, Path<'a>>
+        requires { (first_pair * n ≤ length area.old) × Listed n self.breaks.now }
+        ensures { let v = view area.old n in let b = self.entry.breaks.now in
+            Segments (by_slope n (bounds_of v) (v vector_x) (break_list b) (path_of self.entry v) slope curvature) b v result
+            (view area.new n) }
+    {
+        if !is_usable(slope, curvature) {
+            return ControlFlow::Break(false);
+        }
+        if 0.0 <= slope {
+            return ControlFlow::Break(point_on_path(area, n));
+        }
+        self.along(area, n, -slope / curvature)
+    }
+
+    // One segment of the path: it ends the path, with the Cauchy point in its vector or without, or leads on.
+    fn segment(self, area: &mut [f64], model: &compact::Model) -> ControlFlow<bool, Path<'a>>
+        requires { let h = model.now.shape in
+            Sound h (length area.old) × Modelled model.now (view area.old h.n) × Listed h.n self.breaks.now }
+        ensures { let h = model.now.shape in
+            let v = view area.old h.n in
+            let b = self.entry.breaks.now in
+            Segments (segment_of h.n (bounds_of v) (compact_of h model.now.theta v) (v vector_x) (v vector_g) (break_list b) (path_of self.entry v)) b v result
+            (view area.new h.n) }
+    {
+        let n = model.shape.n;
+        if still(area, n) {
+            return ControlFlow::Break(point_on_path(area, n));
+        }
+        if !compact::product(area, model, area::PRODUCT_D, area::VELOCITY) {
+            return ControlFlow::Break(false);
+        }
+        let curvature = area::dot(area, n, area::VELOCITY, area::PRODUCT_D);
+        if !compact::product(area, model, area::PRODUCT_Z, area::DISPLACEMENT) {
+            return ControlFlow::Break(false);
+        }
+        self.by_slope(area, n, slope(area, n), curvature)
+    }
 }
 
 // The Cauchy point in its vector, where there is one: at most n + 1 segments lead on.
@@ -447,9 +441,9 @@ pub fn generalized_cauchy(area: &mut [f64], model: &compact::Model) -> bool
 {
     let n = model.shape.n;
     let breaks = find_breaks(area, n);
-    let mut path = begin_path(area, n);
+    let mut path = Path::begin(&breaks, area, n);
     for _ in 0..n + 2 {
-        match segment_from(area, model, &breaks, path) {
+        match path.segment(area, model) {
             ControlFlow::Break(ok) => {
                 return ok;
             }

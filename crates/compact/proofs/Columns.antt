@@ -66,9 +66,6 @@ pub record Laying (h : Shape) (theta : Float) (a b : Vecs) (k : ℕ) : Type 0 wh
   pub kept : PairsKept h a b
   pub is : (j : ℕ) → j < k → b (column_slot h j) ≡ tab h.n (column_word (compact_of h theta a) j)
 
-pub laying_none : {h : Shape} {theta : Float} {a : Vecs} → Laying h theta a a 0
-laying_none = record { upto = omega arith; kept = λ q l. refl; is = λ j l. absurd (omega arith) }
-
 pub laying_more : {h : Shape} {theta : Float} {size : ℕ} {a b d : Vecs} {k : ℕ} → Sound h size → Laying h theta a b k → k < 2 * h.pairs
     → d ≡ upd b (column_slot h k) (tab h.n (column_word (compact_of h theta b) k)) → Laying h theta a d (k + 1)
 laying_more {h} {theta} {size} {a} {b} {d} {k} s r l e =
@@ -119,9 +116,10 @@ unfolding fold_to
 lessened_none {h} {z} {p} {a} l = record { upto = omega arith; is = upd_none a p (tab h.n (word (a p))) (sym (tab-word h.n (a p) l)) }
 
 pub lessened_more : {h : Shape} {z : List Float} {p k : ℕ} {a b d : Vecs} → Lessened h z p a b k → p < first_pair → k < 2 * h.pairs
-    → (q : ℕ) → q ≡ column_slot h k → d ≡ rowwise h.n p (λ (i : ℕ) v. minus (v p) (times (word z k) (v q))) b → Lessened h z p a d (k + 1)
+    → {q : ℕ} → q ≡ column_slot h k → {y : Float} → y ≡ word z k → d ≡ rowwise h.n p (λ (i : ℕ) v. minus (v p) (times y (v q))) b
+    → Lessened h z p a d (k + 1)
 unfolding rowwise fold_to
-lessened_more {h} {z} {p} {k} {a} {b} {d} r g l q c e =
+lessened_more {h} {z} {p} {k} {a} {b} {d} r g l {q} c w e =
     let x = tab h.n (less_of h z p a k) in
     let made : b p ≡ x = (λ i. r.is i p) ∙ upd_same a p x in
     let column : b q ≡ a (column_slot h k) = ap b c ∙ (λ i. r.is i (column_slot h k)) ∙ upd_other a p (column_slot h k) x (λ e. omega arith) in
@@ -129,7 +127,7 @@ lessened_more {h} {z} {p} {k} {a} {b} {d} r g l q c e =
       upto = omega arith;
       is =
           e
-          ∙ (λ t. upd (r.is t) p (tab h.n (λ (i : ℕ). minus (word (made t) i) (times (word z k) (word (column t) i)))))
+          ∙ (λ t. upd (r.is t) p (tab h.n (λ (i : ℕ). minus (word (made t) i) (times (w t) (word (column t) i)))))
           ∙ upd_twice a p x (tab h.n (λ (i : ℕ). minus (word x i) (times (word z k) (word (a (column_slot h k)) i))))
           ∙ ap (upd a p)
           (tab_same h.n (λ (i : ℕ). minus (word x i) (times (word z k) (word (a (column_slot h k)) i))) (less_of h z p a (k + 1))

@@ -1,23 +1,22 @@
 -- Laws of tables, of vectors replaced, of arrays that a loop fills from the front, and of the pairs' places. Assumes nothing.
 use mathlib.Core.Path.{◌≡◌, refl, sym, ap, ◌∙◌}
 use mathlib.Core.Bool.{Bool, true, false, cond}
-use mathlib.Core.List.{List, [], ◌∷◌, ◌++◌}
+use mathlib.Core.List.{List, [], ◌∷◌, ◌++◌, append-nil}
 use Rattle.std.specs.Prelude.{None, Some}
 use Prim.Native.Nat.{ℕ, zero, suc, ◌+◌, ◌-◌, ◌*◌, ◌≤◌, ◌<◌}
 use native.Mathlib.Nat.{le_of_suc-le-suc, zero-lt-suc}
 use native.Mathlib.Numerals.{add-one}
 use native.Mathlib.Omega.{arith}
-use borrow.Author.Rules.{rules}
 use borrow.Author.Tests.{ltb-true, ltb-false, eqb-true, eq-eqb}
 use lib.Dec.{ltb, eqb}
-use lib.ListN.{length, get_or, set, replicate, get_or-append}
+use lib.ListN.{length, get_or, set, take, drop, replicate, get_or-append, length-append}
 use lib.Seq.{ext_get_or}
+use Rattle.std.proofs.lemmas.List.{take-replicate, drop-replicate, length-replicate}
 use lib.Ieee.{Float, nan}
 use Rattle.definition.specs.Vector.{tab, word, fold_to, dot}
 use Rattle.definition.specs.Compact.{pair_of, wrap, padded}
 use Rattle.area.specs.Area.{Vecs, upd, given, vectors}
 use Rattle.area.proofs.Laws.{room}
-use Rattle.area.proofs.Laws as area-laws
 use Rattle.compact.specs.declared.Shape.{Shape}
 use Rattle.compact.specs.State.{pair_slot, pair_at, pairs_of, Sound, Slot}
 
@@ -75,36 +74,55 @@ pub given_is : (t : Bool) (v : List Float) → given t v ≡ cond t (Some v) Non
 given_is true v = refl
 given_is false v = refl
 
--- ---- an array of 32 places that a loop fills from the front
+-- ---- the first n places of an array of 32, filled in turn: b has i of them made
 
 pub set_pad : {A : Type 0} (i d : ℕ) (f : ℕ → A) (z : A) → set (tab i f ++ replicate (suc d) z) i (f i) ≡ tab (suc i) f ++ replicate d z
 unfolding tab
 set_pad zero d f z = refl
 set_pad (suc i) d f z = ap (λ l. f zero ∷ l) (set_pad i d (λ (k : ℕ). f (suc k)) z)
 
-pub record Padding {A : Type 0} (z : A) (n : ℕ) (f : ℕ → A) (b : List A) (i : ℕ) : Type 0 where
+pub record Filling {A : Type 0} (z : A) (n : ℕ) (f : ℕ → A) (b : List A) (i : ℕ) : Type 0 where
   pub upto : i ≤ n
-  pub most : n ≤ 32
-  pub is : b ≡ padded z i f
+  pub is : b ≡ tab i f ++ replicate (n - i) z
 
-pub padding_none : {A : Type 0} {z : A} {n : ℕ} {f : ℕ → A} {b : List A} → n ≤ 32 → b ≡ replicate 32 z → Padding z n f b 0
-unfolding padded tab
-padding_none h e = record { upto = omega arith; most = h; is = e }
+pub filling_none : {A : Type 0} {z : A} {n : ℕ} {f : ℕ → A} → n ≤ 32 → Filling z n f (take n (replicate 32 z)) 0
+unfolding tab
+filling_none {z = z} {n = n} h = let q : n - 0 ≡ n = omega arith in record { upto = omega arith; is = rw q (take-replicate n 32 z h) }
 
-pub padding_more : {A : Type 0} {z : A} {n : ℕ} {f : ℕ → A} {b : List A} {i : ℕ} {v : A} → Padding z n f b i → i < n → v ≡ f i
-    → Padding z n f (set b i v) (i + 1)
-unfolding padded
-padding_more {z = z} {n = n} {f = f} {b = b} {i = i} {v = v} r h e =
-    let l : i < 32 = omega (arith, r.most) in
-    let q : 32 - i ≡ suc (32 - suc i) = omega arith in
+pub filling_all : {A : Type 0} {z : A} {f : ℕ → A} → Filling z 32 f (replicate 32 z) 0
+unfolding tab
+filling_all = record { upto = omega arith; is = refl }
+
+pub filled_count : {A : Type 0} {z : A} {n : ℕ} {f : ℕ → A} {b : List A} {i : ℕ} → Filling z n f b i → length b ≡ n
+filled_count {z = z} {n = n} {f = f} {i = i} r =
+    let e : i + (n - i) ≡ n = omega (arith, r.upto) in
+    rw (r.is, length-append, tab-length, length-replicate) e
+
+pub filling_below : {A : Type 0} {z : A} {n : ℕ} {f : ℕ → A} {b : List A} {i e : ℕ} → Filling z n f b i → length b ≡ e → i < e → i < n
+filling_below r l h = omega (arith, filled_count r)
+
+pub filling_more : {A : Type 0} {z : A} {n : ℕ} {f : ℕ → A} {b : List A} {i e : ℕ} {v : A} → Filling z n f b i → length b ≡ e → i < e → v ≡ f i
+    → Filling z n f (set b i v) (i + 1)
+filling_more {z = z} {n = n} {f = f} {i = i} r l h d =
+    let below = filling_below r l h in
+    let q : n - i ≡ suc (n - suc i) = omega arith in
     record {
       upto = omega arith;
-      most = r.most;
-      is = rw (add-one, r.is, e, q) (set_pad i (32 - suc i) f z);
+      is = rw (add-one, r.is, d, q) (set_pad i (n - suc i) f z);
     }
 
-pub padding_done : {A : Type 0} {z : A} {n : ℕ} {f : ℕ → A} {b : List A} {i : ℕ} → Padding z n f b i → n ≤ i → b ≡ padded z n f
-padding_done {n = n} {i = i} r h = let e : i ≡ n = omega (arith, r.upto) in rw e at r.is
+pub filling_done : {A : Type 0} {z : A} {n : ℕ} {f : ℕ → A} {b : List A} {i e : ℕ} → Filling z n f b i → length b ≡ e → e ≤ i
+    → b ++ drop n (replicate 32 z) ≡ padded z n f
+unfolding padded
+filling_done {z = z} {n = n} {f = f} {i = i} r l h =
+    let e : i ≡ n = omega (arith, filled_count r, r.upto) in
+    let q : n - n ≡ 0 = omega arith in
+    rw (r.is, e, q, append-nil, drop-replicate) refl
+
+-- and all 32 of them, with n made
+pub filling_padded : {A : Type 0} {z : A} {n : ℕ} {f : ℕ → A} {b : List A} {i : ℕ} → Filling z 32 f b i → i ≡ n → b ≡ padded z n f
+unfolding padded
+filling_padded r e = rw e at r.is
 
 -- an entry below the size
 pub padded-get : {A : Type 0} (z : A) (n : ℕ) (f : ℕ → A) (i : ℕ) (d : A) → i < n → get_or (padded z n f) i d ≡ f i
@@ -151,5 +169,3 @@ slot_is h k r l top ring e =
 -- any vector of the area has room
 pub vector_room : {h : Shape} {size : ℕ} (p : ℕ) → Sound h size → p < vectors h.m → p * h.n + h.n ≤ size
 vector_room {h} {size} p r l = room p (vectors h.m) h.n size l r.all
-
-pub ruleset laws = (padding_more, padding_done, area-laws.laws, rules)

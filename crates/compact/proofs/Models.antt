@@ -1,6 +1,5 @@
 -- What later crates need of a model: it stays while the vectors from the pairs on stay, and its entries. Assumes nothing.
 use mathlib.Core.Path.{◌≡◌, refl, sym, ap, ◌∙◌}
-use mathlib.Core.Bool.{Bool}
 use mathlib.Core.List.{List, []}
 use Prim.Native.Nat.{ℕ, ◌+◌, ◌*◌, ◌≤◌, ◌<◌}
 use native.Mathlib.Omega.{arith}
@@ -9,11 +8,11 @@ use Rattle.definition.specs.Number.{zero64}
 use Rattle.definition.specs.Vector.{tab, word}
 use Rattle.definition.specs.Solve.{Matrix, entry}
 use Rattle.definition.specs.Compact as C
-use Rattle.area.specs.Area.{Vecs, upd, first_free, first_pair, ScratchOnly}
+use Rattle.area.specs.Area.{Vecs, upd, first_pair}
 use Rattle.area.proofs.Laws.{upd_other}
 use Rattle.compact.specs.declared.Shape.{Shape}
 use Rattle.compact.specs.declared.Model.{Model}
-use Rattle.compact.specs.State.{pair_slot, column_slot, pair_at, pairs_of, compact_of, Sound, Laid, PairsKept, Modelled, Multiplied}
+use Rattle.compact.specs.State.{pair_slot, column_slot, pair_at, pairs_of, compact_of, Sound, Laid, PairsKept, Modelled}
 use Rattle.compact.proofs.Laws.{tab_same, pairs_count, padded-get, place_below}
 
 -- every vector from the pairs on is as it was
@@ -54,24 +53,11 @@ compact_laid {h} theta a b s k =
     λ i. record { s = k (pair_slot h j) (omega arith) i; y = k (pair_slot h j + 1) (omega arith) i }))
 
 -- one of the first sixteen vectors replaced
-pub pairs_upd : (h : Shape) (a : Vecs) (p : ℕ) (v : List Float) → p < first_pair → pairs_of h (upd a p v) ≡ pairs_of h a
-pairs_upd h a p v l = pairs_kept h a (upd a p v) (high_upd a p v l)
-
 pub compact_upd : (h : Shape) (theta : Float) (a : Vecs) (p : ℕ) (v : List Float) → p < first_pair → compact_of h theta (upd a p v) ≡ compact_of h theta a
 compact_upd h theta a p v l = compact_kept h theta a (upd a p v) (high_upd a p v l)
 
 pub modelled_upd : {w : Model} {a : Vecs} (p : ℕ) (v : List Float) → p < first_pair → Modelled w a → Modelled w (upd a p v)
 modelled_upd {a = a} p v l r = modelled_kept (upd a p v) (high_upd a p v l) r
-
--- after a product into one of the first sixteen
-pub multiplied_high : {h : Shape} {theta : Float} {p q : ℕ} {a b : Vecs} {ok : Bool} → p < first_pair → Multiplied h theta p q a ok b → HighKept a b
-multiplied_high {p = p} {a = a} {b = b} l r = λ j k. (λ i. r.frame i j) ∙ upd_other a p j (b p) (λ e. omega arith)
-
-pub multiplied_scratch : {h : Shape} {theta : Float} {p q : ℕ} {a b : Vecs} {ok : Bool} → 8 ≤ p → p < first_free → Multiplied h theta p q a ok b
-    → ScratchOnly a b
-multiplied_scratch {p = p} {a = a} {b = b} g l r =
-    let other : (j : ℕ) → (j ≡ p → ⊥) → b j ≡ a j = λ j n. (λ i. r.frame i j) ∙ upd_other a p j (b p) n in
-    record { low = λ j k. other j (λ e. omega arith); free = λ j k m. other j (λ e. omega arith); high = multiplied_high (omega (arith, l)) r }
 
 -- ---- entries
 

@@ -134,144 +134,16 @@ pub fn update(area: &mut [f64], shape: Shape, theta: f64) -> Updated
     }
 }
 
-// ---- the block, from the pairs
-
-// The s of pair i times the y of pair j.
-fn s_dot_y(area: &[f64], shape: Shape, i: usize, j: usize) -> f64
-    requires { Sound shape (length area.now) × (i < shape.pairs) × (j < shape.pairs) }
-    ensures { let v = view area.now shape.n in result ≡ dot_of shape.n (pair_of (pairs_of shape v) i).s (pair_of (pairs_of shape v) j).y }
-{
-    let left = pair_slot(shape, i);
-    let right = pair_slot(shape, j);
-    area::dot(area, shape.n, left, right + 1)
-}
-
-// The s of pair i times the s of pair j.
-// Kept: beside `s_dot_y`, since one function for both would take the second vector as a number.
-fn s_dot_s(area: &[f64], shape: Shape, i: usize, j: usize) -> f64
-    requires { Sound shape (length area.now) × (i < shape.pairs) × (j < shape.pairs) }
-    ensures { let v = view area.now shape.n in result ≡ dot_of shape.n (pair_of (pairs_of shape v) i).s (pair_of (pairs_of shape v) j).s }
-{
-    let left = pair_slot(shape, i);
-    let right = pair_slot(shape, j);
-    area::dot(area, shape.n, left, right)
-}
-
-// An entry of -D: -s·y of a pair on the diagonal, and 0 elsewhere.
-#[tactic(auto, using(float::proofs::Constants::zero_is), unfolding(definition::specs::Compact::diagonal_entry))]
-fn diagonal(area: &[f64], shape: Shape, i: usize, j: usize) -> f64
-    requires { Sound shape (length area.now) × (i < shape.pairs) × (j < shape.pairs) }
-    ensures { result ≡ diagonal_entry shape.n (pairs_of shape (view area.now shape.n)) i j }
-{
-    if i == j {
-        -s_dot_y(area, shape, i, j)
-    } else {
-        0.0
-    }
-}
-
-// An entry of L: s of pair i times y of pair j below the diagonal, and 0 elsewhere.
-#[tactic(auto, using(float::proofs::Constants::zero_is), unfolding(definition::specs::Compact::lower_entry))]
-fn lower(area: &[f64], shape: Shape, i: usize, j: usize) -> f64
-    requires { Sound shape (length area.now) × (i < shape.pairs) × (j < shape.pairs) }
-    ensures { result ≡ lower_entry shape.n (pairs_of shape (view area.now shape.n)) i j }
-{
-    if j < i {
-        s_dot_y(area, shape, i, j)
-    } else {
-        0.0
-    }
-}
-
-// Entry i, j of the block [-D, L'; L, theta S'S], by the row's half and the column's. The block is symmetric: below the diagonal
-// the entry is taken from the rows above, which stand in the block.
-fn block_entry(area: &[f64], shape: Shape, theta: f64, block: &Matrix, i: usize, j: usize) -> f64
-    requires { Sound shape (length area.now) × (i < 2 * shape.pairs) × (j < 2 * shape.pairs)
-        × (block.now ≡ block_to shape theta (view area.now shape.n) i) }
-    ensures { result ≡ block_entry shape.n (compact_of shape theta (view area.now shape.n)) i j }
-{
-    if j < i {
-        return block[j][i];
-    }
-    let pairs = shape.pairs;
-    if i < pairs {
-        if j < pairs {
-            return diagonal(area, shape, i, j);
-        }
-        return lower(area, shape, j - pairs, i);
-    }
-    theta * s_dot_s(area, shape, i - pairs, j - pairs)
-}
-
-// Row i of the block, in an array of 32; the rows above stand in the block.
-fn block_row(area: &[f64], shape: Shape, theta: f64, block: &Matrix, i: usize) -> Row
-    requires { Sound shape (length area.now) × (i < 2 * shape.pairs) × (block.now ≡ block_to shape theta (view area.now shape.n) i) }
-    ensures { result ≡ padded zero64 (2 * shape.pairs) (block_entry shape.n (compact_of shape theta (view area.now shape.n)) i) }
-{
-    let mut row = [0.0; SIZE];
-    for j in 0..2 * shape.pairs {
-        row[j] = block_entry(area, shape, theta, block, i, j);
-    }
-    row
-}
-
-// The block, once for a model.
-fn block(area: &[f64], shape: Shape, theta: f64) -> Matrix
-    requires { Sound shape (length area.now) }
-    ensures { result ≡ block_of shape.n (compact_of shape theta (view area.now shape.n)) }
-{
-    let mut block = [[0.0; SIZE]; SIZE];
-    for i in 0..2 * shape.pairs {
-        let row = block_row(area, shape, theta, &block, i);
-        block[i] = row;
-    }
-    block
-}
-
-// ---- the columns of W = [Y, theta S], laid out once for a model
+// ---- the model
 
 // Vector `to` becomes the factor times vector `from`.
-// Kept: an index. What is read and what is written stand in one lent slice.
-#[tactic(auto, using(area::proofs::Laws::row_none, area::proofs::Laws::row_done))]
 fn scale(area: &mut [f64], n: usize, to: usize, from: usize, factor: f64)
     requires { (to * n + n ≤ length area.old) × (from * n + n ≤ length area.old) }
     ensures { view area.new n ≡ rowwise n to (λ (i : ℕ) v. times factor (v from)) (view area.old n) }
 {
-    let to_start = to * n;
-    let from_start = from * n;
-    for i in 0..n {
-        area[to_start + i] = factor * area[from_start + i];
-    }
+    let start = from * n;
+    area::set_each(area, n, to, |area, i| factor * area[start + i]);
 }
-
-// A column: the y of a pair, or theta times its s.
-fn lay_column(area: &mut [f64], shape: Shape, theta: f64, column: usize)
-    requires { Sound shape (length area.old) × (column < 2 * shape.pairs) }
-    ensures { let v = view area.old shape.n in
-        view area.new shape.n ≡ upd v (column_slot shape column) (tab shape.n (column_word (compact_of shape theta v) column)) }
-{
-    let to = column_slot(shape, column);
-    if column < shape.pairs {
-        let slot = pair_slot(shape, column);
-        area::copy(area, shape.n, to, slot + 1);
-    } else {
-        let slot = pair_slot(shape, column - shape.pairs);
-        scale(area, shape.n, to, slot, theta);
-    }
-}
-
-// Every column, each in its own vector past the pairs; the vectors below stay.
-fn lay_columns(area: &mut [f64], shape: Shape, theta: f64)
-    requires { Sound shape (length area.old) }
-    ensures { Laid shape theta (view area.new shape.n)
-        × PairsKept shape (view area.old shape.n) (view area.new shape.n) }
-{
-    for column in 0..2 * shape.pairs {
-        lay_column(area, shape, theta, column);
-    }
-}
-
-// ---- the model
 
 // What products with B and the subspace step rest on: the pairs, the block of the middle matrix, and its factors. The columns stand in the area.
 #[derive(Drop)]
@@ -296,16 +168,126 @@ impl Model {
         }
     }
 
+    // The s of pair i times the y of pair j.
+    fn s_dot_y(&self, area: &[f64], i: usize, j: usize) -> f64
+        requires { let h = self.now.shape in Sound h (length area.now) × (i < h.pairs) × (j < h.pairs) }
+        ensures { let h = self.now.shape in let v = view area.now h.n in
+            result ≡ dot_of h.n (pair_of (pairs_of h v) i).s (pair_of (pairs_of h v) j).y }
+    {
+        let left = pair_slot(self.shape, i);
+        let right = pair_slot(self.shape, j);
+        area::dot(area, self.shape.n, left, right + 1)
+    }
+
+    // An entry of -D: -s·y of a pair on the diagonal, and 0 elsewhere.
+    #[tactic(auto, using(float::proofs::Constants::zero_is), unfolding(definition::specs::Compact::diagonal_entry))]
+    fn diagonal(&self, area: &[f64], i: usize, j: usize) -> f64
+        requires { let h = self.now.shape in Sound h (length area.now) × (i < h.pairs) × (j < h.pairs) }
+        ensures { let h = self.now.shape in result ≡ diagonal_entry h.n (pairs_of h (view area.now h.n)) i j }
+    {
+        if i == j {
+            -self.s_dot_y(area, i, j)
+        } else {
+            0.0
+        }
+    }
+
+    // An entry of L: s of pair i times y of pair j below the diagonal, and 0 elsewhere.
+    #[tactic(auto, using(float::proofs::Constants::zero_is), unfolding(definition::specs::Compact::lower_entry))]
+    fn lower(&self, area: &[f64], i: usize, j: usize) -> f64
+        requires { let h = self.now.shape in Sound h (length area.now) × (i < h.pairs) × (j < h.pairs) }
+        ensures { let h = self.now.shape in result ≡ lower_entry h.n (pairs_of h (view area.now h.n)) i j }
+    {
+        if j < i { self.s_dot_y(area, i, j) } else { 0.0 }
+    }
+
+    // Entry i, j of the block [-D, L'; L, theta S'S], by the row's half and the column's. The block is symmetric: below the diagonal
+    // the entry is taken from the rows above, which stand in the block.
+    fn block_entry(&self, area: &[f64], i: usize, j: usize) -> f64
+        requires { let h = self.now.shape in Sound h (length area.now) × (i < 2 * h.pairs) × (j < 2 * h.pairs)
+            × (self.now.block ≡ block_to h self.now.theta (view area.now h.n) i) }
+        ensures { let h = self.now.shape in result ≡ block_entry h.n (compact_of h self.now.theta (view area.now h.n)) i j }
+    {
+        if j < i {
+            return self.block[j][i];
+        }
+        let pairs = self.shape.pairs;
+        if pairs <= i {
+            let left = pair_slot(self.shape, i - pairs);
+            let right = pair_slot(self.shape, j - pairs);
+            return self.theta * area::dot(area, self.shape.n, left, right);
+        }
+        if j < pairs {
+            return self.diagonal(area, i, j);
+        }
+        self.lower(area, j - pairs, i)
+    }
+
+    // Row i of the block, in an array of 32; the rows above stand in the block.
+    fn block_row(&self, area: &[f64], i: usize) -> Row
+        requires { let h = self.now.shape in Sound h (length area.now) × (i < 2 * h.pairs)
+            × (self.now.block ≡ block_to h self.now.theta (view area.now h.n) i) }
+        ensures { let h = self.now.shape in
+            result ≡ padded zero64 (2 * h.pairs) (block_entry h.n (compact_of h self.now.theta (view area.now h.n)) i) }
+    {
+        let mut row = [0.0; SIZE];
+        for (j, place) in row[..2 * self.shape.pairs].iter_mut().enumerate() {
+            *place = self.block_entry(area, i, j);
+        }
+        row
+    }
+
+    // The block, row by row.
+    // Kept: an index. A row is made from the rows above it, which stand in the array that it goes to.
+    fn build_block(&mut self, area: &[f64])
+        requires { Sound self.old.shape (length area.now) }
+        ensures { let h = self.old.shape in (self.new.shape ≡ h) × (self.new.theta ≡ self.old.theta)
+            × (self.new.block ≡ block_of h.n (compact_of h self.old.theta (view area.now h.n))) }
+    {
+        self.block = [[0.0; SIZE]; SIZE];
+        for i in 0..2 * self.shape.pairs {
+            let row = self.block_row(area, i);
+            self.block[i] = row;
+        }
+    }
+
+    // A column of W = [Y, theta S]: the y of a pair, or theta times its s.
+    fn lay_column(&self, area: &mut [f64], column: usize)
+        requires { let h = self.now.shape in Sound h (length area.old) × (column < 2 * h.pairs) }
+        ensures { let h = self.now.shape in let v = view area.old h.n in
+            view area.new h.n ≡ upd v (column_slot h column) (tab h.n (column_word (compact_of h self.now.theta v) column)) }
+    {
+        let shape = self.shape;
+        let to = column_slot(shape, column);
+        if column < shape.pairs {
+            let slot = pair_slot(shape, column);
+            area::copy(area, shape.n, to, slot + 1);
+        } else {
+            let slot = pair_slot(shape, column - shape.pairs);
+            scale(area, shape.n, to, slot, self.theta);
+        }
+    }
+
+    // Every column, each in its own vector past the pairs; the vectors below stay.
+    fn lay_columns(&self, area: &mut [f64])
+        requires { Sound self.now.shape (length area.old) }
+        ensures { let h = self.now.shape in Laid h self.now.theta (view area.new h.n)
+            × PairsKept h (view area.old h.n) (view area.new h.n) }
+    {
+        for column in 0..2 * self.shape.pairs {
+            self.lay_column(area, column);
+        }
+    }
+
     // The model of the pairs: the columns are laid out, and the block is built and factored.
     // Kept: in place. A model by value, with an Option of its factors, took 5.7 microseconds where this one takes 2.5 (3 coordinates, 5 pairs).
     pub fn build(&mut self, area: &mut [f64])
         requires { Sound self.old.shape (length area.old) }
         ensures { Built self.old.shape self.old.theta area.old self.new area.new }
     {
-        lay_columns(area, self.shape, self.theta);
-        let block = block(area, self.shape, self.theta);
-        self.block = block;
-        self.factors.factor(2 * self.shape.pairs, block);
+        self.lay_columns(area);
+        self.build_block(area);
+        self.factors.factor(2 * self.shape.pairs, self.block);
     }
 }
 
@@ -318,8 +300,8 @@ fn right_side(area: &[f64], model: &Model, vector: usize) -> Row
 {
     let shape = model.shape;
     let mut right = [0.0; SIZE];
-    for column in 0..2 * shape.pairs {
-        right[column] = area::dot(area, shape.n, column_slot(shape, column), vector);
+    for (column, place) in right[..2 * shape.pairs].iter_mut().enumerate() {
+        *place = area::dot(area, shape.n, column_slot(shape, column), vector);
     }
     right
 }
@@ -337,17 +319,18 @@ fn weights(area: &[f64], model: &Model, vector: usize) -> Option<Row>
 }
 
 // Vector `to` becomes itself less the factor times vector `from`.
-// Kept: a loop beside `scale`, since one loop for both would be given the operation as a closure that reads the area it writes.
-#[tactic(auto, using(area::proofs::Laws::row_none, area::proofs::Laws::row_done))]
 fn less(area: &mut [f64], n: usize, to: usize, from: usize, factor: f64)
     requires { (to * n + n ≤ length area.old) × (from * n + n ≤ length area.old) }
     ensures { view area.new n ≡ rowwise n to (λ (i : ℕ) v. minus (v to) (times factor (v from))) (view area.old n) }
 {
     let to_start = to * n;
     let from_start = from * n;
-    for i in 0..n {
-        area[to_start + i] = area[to_start + i] - factor * area[from_start + i];
-    }
+    area::set_each(
+        area,
+        n,
+        to,
+        |area, i| area[to_start + i] - factor * area[from_start + i],
+    );
 }
 
 // Vector `to` becomes theta times vector `from`, less each column with its weight.
@@ -359,14 +342,8 @@ fn less_columns(area: &mut [f64], model: &Model, weights: Row, to: usize, from: 
 {
     let shape = model.shape;
     scale(area, shape.n, to, from, model.theta);
-    for column in 0..2 * shape.pairs {
-        less(
-            area,
-            shape.n,
-            to,
-            column_slot(shape, column),
-            weights[column],
-        );
+    for (column, &weight) in weights[..2 * shape.pairs].iter().enumerate() {
+        less(area, shape.n, to, column_slot(shape, column), weight);
     }
 }
 

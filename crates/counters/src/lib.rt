@@ -11,20 +11,20 @@ use problem::Limits;
 
 #[derive(Clone, Copy, Debug, PartialEq, Eq)]
 pub enum Termination {
-    GTol,
-    FTol,
-    MaxIterations,
-    MaxEvaluations,
-    Cancelled,
-    Nonfinite,
-    LineSearchFailed,
-    ObjectiveFailed,
+    GTol = 1,
+    FTol = 2,
+    MaxIterations = 3,
+    MaxEvaluations = 4,
+    Cancelled = 5,
+    Nonfinite = 6,
+    LineSearchFailed = 7,
+    ObjectiveFailed = 8,
 }
 
 // No count is near where a sum would wrap.
 pub const MOST_COUNTED: usize = 0x4000_0000_0000_0000;
 
-#[derive(Clone, Copy, Debug, PartialEq, Eq)]
+#[derive(Clone, Copy, Debug, Default, PartialEq, Eq)]
 pub struct Counters {
     pub nit: usize,
     pub nfev: usize,
@@ -36,16 +36,7 @@ impl Termination {
     pub fn number(self) -> usize
         ensures { result ≡ status_number (termination_of self) }
     {
-        match self {
-            Termination::GTol => 1,
-            Termination::FTol => 2,
-            Termination::MaxIterations => 3,
-            Termination::MaxEvaluations => 4,
-            Termination::Cancelled => 5,
-            Termination::Nonfinite => 6,
-            Termination::LineSearchFailed => 7,
-            Termination::ObjectiveFailed => 8,
-        }
+        self as usize
     }
 }
 
@@ -55,9 +46,8 @@ impl Counters {
         ensures { counters_of result ≡ first_counters }
     {
         Counters {
-            nit: 0,
             nfev: 1,
-            njev: 0,
+            ..Counters::default()
         }
     }
 
@@ -103,8 +93,8 @@ impl Counters {
         }
     }
 
-    // Kept: a rule of the project, that the counters are lent by &mut to thin functions above those by value.
     // `Counters::value`: charges a value question and says so, or says that the budget is spent and charges nothing.
+    // Kept: a rule of the project, that the counters are lent by &mut to thin functions above those by value.
     pub fn charge_value(&mut self, limits: Limits) -> bool
         ensures counters { counters_of self.new ≡ value_charged (limits_of limits) (counters_of self.old) }
         ensures left { result ≡ value_left (limits_of limits) (counters_of self.old) }

@@ -24,7 +24,8 @@ use Rattle.definition.proofs.Accepted.{due_length}
 -- ---- one entry, from its words
 
 module _ (room : ℕ) (rs : List Reply) (m : Machine) (rest : List ℕ) where
-  admitted : (r : Reply) (ws : List ℕ) → check_due m r ≡ None → length (log_words rs) + length (entry_words r) ≤ room → drop (length (entry_words r) - 1) ws ≡ rest
+  admitted : (r : Reply) (ws : List ℕ) → check_due m r ≡ None → length (log_words rs) + length (entry_words r) ≤ room
+      → drop (length (entry_words r) - 1) ws ≡ rest
       → admit room ws rs m (Some r) ≡ Entries.going rest (r ∷ rs) (answer m r)
   admitted r ws due fits e = rw (due, le-ltb room (length (log_words rs) + length (entry_words r)) fits, e)
 

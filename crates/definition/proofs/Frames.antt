@@ -97,7 +97,9 @@ accepted_framed z bs k e =
     let i = length bs - 32 - 8 * count in
     let ws = words_of count (drop i bs) in
     let a = unless_true (ltb (length bs) 32) (plain_refusal 17) (read_trailed z bs t) k e in
-    let b = unless_false (known_version (get_or t 2 0)) (leb (8 * count) (length bs - 32)) (plain_refusal 17) (read_words z ws (get_or t 0 0) (get_or t 1 0)) k a.1 in
+    let b =
+    unless_false (known_version (get_or t 2 0)) (leb (8 * count) (length bs - 32)) (plain_refusal 17) (read_words z ws (get_or t 0 0) (get_or t 1 0))
+    k a.1 in
     let long : 32 ≤ length bs = ltb-false (length bs) 32 a.0 in
     let room : 8 * count ≤ length bs - 32 = leb-true (8 * count) (length bs - 32) b.1 in
     let at-trailer : i + 8 * count ≡ length bs - 32 = omega arith in

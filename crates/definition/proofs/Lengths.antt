@@ -63,7 +63,8 @@ log_cost s (r ∷ rs) d =
     let more = mul-add (dimension s + 1) (count_of is_gradient rs) (cond (is_gradient r) 1 0) in
     omega (arith, log_cost s rs d.1, entry_cost s r rs d, length-append (log_words rs) (entry_words r), more)
 
-pub log_length : (s : Setup) (rs : List Reply) → Accepted s → Due s rs → length (log_words rs) ≤ (3 + dimension s) * (limits_of s).maxfev + (limits_of s).maxiter
+pub log_length : (s : Setup) (rs : List Reply) → Accepted s → Due s rs
+    → length (log_words rs) ≤ (3 + dimension s) * (limits_of s).maxfev + (limits_of s).maxiter
 log_length s rs a d =
     let h = counted s rs a d in
     let n = dimension s in

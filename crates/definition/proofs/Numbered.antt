@@ -282,10 +282,12 @@ answer_numbered z History.empty (Call.reply r) = refl
 answer_numbered z (History.fit b) (Call.reply r) =
     let full = ltb z.log (length (log_of b) + length (entry_words r)) in
     answered (check_reply z b r) Answer.done (both (check_due (run_of b) r) (when full (refuse 12 0 0)) (due (run_of b) r) (tested full 12 0 0 refl)) tt
-answer_numbered z History.empty (Call.take_back j) = answered {numbers = refusals_of (Call.take_back j)} (when (ltb 0 j) (refuse 16 0 0)) Answer.done (tested (ltb 0 j) 16 0 0 refl) tt
+answer_numbered z History.empty (Call.take_back j) =
+    answered {numbers = refusals_of (Call.take_back j)} (when (ltb 0 j) (refuse 16 0 0)) Answer.done (tested (ltb 0 j) 16 0 0 refl) tt
 answer_numbered z (History.fit b) (Call.take_back j) =
     let few = ltb (length b.replies) j in
-    answered {numbers = refusals_of (Call.take_back j)} _ Answer.done (both (when few (refuse 16 0 0)) (log_short z b) (tested few 16 0 0 refl) (log_kept z b refl)) tt
+    answered {numbers = refusals_of (Call.take_back j)} _ Answer.done
+    (both (when few (refuse 16 0 0)) (log_short z b) (tested few 16 0 0 refl) (log_kept z b refl)) tt
 answer_numbered z History.empty (Call.question room) = tt
 answer_numbered z (History.fit b) (Call.question room) =
     answered (check_question b room (question (run_of b))) (Answer.asked (question (run_of b))) (asks b room (question (run_of b))) tt
@@ -293,7 +295,8 @@ answer_numbered z History.empty (Call.report room) = refl
 answer_numbered z (History.fit b) (Call.report room) =
     let absent = unreported (run_of b).phase in
     let n = dimension b.setup in
-    answered {numbers = refusals_of (Call.report room)} _ _ (both (when absent (refuse 15 0 0)) (output_short room n) (tested absent 15 0 0 refl) (short room n refl)) tt
+    answered {numbers = refusals_of (Call.report room)} _ _
+    (both (when absent (refuse 15 0 0)) (output_short room n) (tested absent 15 0 0 refl) (short room n refl)) tt
 answer_numbered z History.empty Call.replies = tt
 answer_numbered z (History.fit b) Call.replies = tt
 answer_numbered z History.empty (Call.entry k room) = tt

@@ -107,7 +107,8 @@ scheme_back_lem w Scheme.central e = rw e
 
 floats_at_lem : (pre post : List ℕ) (xs : List Float) (k n : ℕ) → length pre ≡ k → length xs ≡ n → Each Binary64 xs
     → floats_at (pre ++ (map to_word xs ++ post)) k n ≡ xs
-floats_at_lem pre post xs k n a b f = rw (drop_at pre (map to_word xs ++ post) k a, take_at (map to_word xs) post n (length-map xs to_word ∙ b)) (floats_back xs f)
+floats_at_lem pre post xs k n a b f =
+    rw (drop_at pre (map to_word xs ++ post) k a, take_at (map to_word xs) post n (length-map xs to_word ∙ b)) (floats_back xs f)
 
 bounds_back : (pre log : List ℕ) (o : Option Bounds) (w n : ℕ) → length pre ≡ 7 + n → n_in w ≡ n → w / 65536 % 2 ≡ box_flag o → Given (Sides n) o
     → Given BoxFloats o

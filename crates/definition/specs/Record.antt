@@ -1,5 +1,6 @@
 -- The record: the setup's words, the log's, and a trailer of two sums, version and length; as bytes, little-endian.
-use Rattle.std.specs.Prelude.{ℕ, zero, suc, ◌+◌, ◌-◌, ◌*◌, ◌/◌, ◌%◌, ◌^◌, Bool, not, cond, ◌&&◌, ◌||◌, List, [], ◌∷◌, ◌++◌, map, eqb, ltb, leb, length, get_or, take, drop, Float}
+use Rattle.std.specs.Prelude.{ℕ, zero, suc, ◌+◌, ◌-◌, ◌*◌, ◌/◌, ◌%◌, ◌^◌, Bool, not, cond, ◌&&◌, ◌||◌, List, []}
+use Rattle.std.specs.Prelude.{◌∷◌, ◌++◌, map, eqb, ltb, leb, length, get_or, take, drop, Float}
 use Rattle.std.specs.Prelude.{Option, None, Some}
 use Rattle.definition.specs.Number.{to_float, to_word}
 use Rattle.definition.specs.Problem.{Setup, Bounds, Scheme, Refusal, Check, refuse, when, ◌then◌, validate, dimension, area_needed, or_else}

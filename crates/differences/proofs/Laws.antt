@@ -108,9 +108,6 @@ pub record Passed (q : Probing) (t : Fit) (i : ℕ) (a b : List Float) (j : ℕ)
   pub is : (w : M.Place) (p : Phase)
       → probe_from (t.shape.n - j) w j (machine_of (numbered p q t) b) ≡ probe_from (t.shape.n - i) w i (machine_of (numbered p q t) a)
 
-pub passed_none : {q : Probing} {t : Fit} {i : ℕ} {a : List Float} → i ≤ t.shape.n → Passed q t i a a i
-passed_none h = record { upto = h; long = refl; saved = saved_refl; is = λ w p. refl }
-
 pub passed_more : {q : Probing} {t : Fit} {i : ℕ} {a b d : List Float} {j : ℕ} {x : Probes} → Passed q t i a b j → j < t.shape.n → length d ≡ length b
     → view d t.shape.n ≡ put_word (view b t.shape.n) vector_trial_gradient j zero64
     → x ≡ probes_at (machine_of t b).terms (view b t.shape.n vector_trial) j → unprobed x ≡ true → Passed q t i a d (j + 1)

@@ -1,5 +1,5 @@
 -- Laws of `LeadsTo`: how it joins with a step before it, and what the budget and the gradient's end lead to. Assumes nothing.
-use mathlib.Core.Path.{◌≡◌, refl, ap, ◌∙◌}
+use mathlib.Core.Path.{◌≡◌, refl, ap}
 use mathlib.Core.List.{List}
 use Rattle.std.specs.Prelude.{None, Some}
 use Prim.Native.Nat.{ℕ, ◌<◌}
@@ -21,11 +21,10 @@ use Rattle.fit.specs.declared.Phase.TheVariants as P
 use Rattle.fit.specs.declared.Side.{Side}
 use Rattle.fit.specs.State.{place_of, side_of, machine, machine_of, Steps}
 use Rattle.fit.proofs.Laws.{still, steps_as, steps_from, charge_asks, charge_ends}
-use Rattle.fit.specs.Ready.{Ready}
 use Rattle.differences.specs.declared.Probing.{Probing}
 use Rattle.differences.specs.declared.Next.{Next}
 use Rattle.differences.specs.declared.Next.TheVariants.{Probe, Ended}
-use Rattle.differences.specs.Probing.{numbered, probing, Settles, reached, LeadsTo}
+use Rattle.differences.specs.Probing.{numbered, probing, Settles, LeadsTo}
 
 -- G does to these machines what F does
 pub leads_as : {F G : M.Place → Machine → Machine} {q : Probing} {t : Fit} {a : List Float} {r : Next} {b : List Float} → LeadsTo F q t a r b
@@ -108,11 +107,3 @@ spent_leads q t i side e a =
 pub leads_settled : {F : M.Place → Machine → Machine} {q : Probing} {t f : Fit} {a b d : List Float} {r : Next} (w : Place) → LeadsTo F q t a r b
     → numbered t.phase q t ≡ t → Settles w t.phase t b r f d → Steps (F (place_of w)) t a f d
 leads_settled {F} {q} {t} {f} {a} {b} {d} {r} w h e s = rw e at (h.is w t.phase f d s)
-
--- the counts that a step raises are as they were
-pub leads_ready : {F : M.Place → Machine → Machine} {q : Probing} {t : Fit} {a b : List Float} {r : Next} {size : ℕ} → LeadsTo F q t a r b
-    → numbered t.phase q t ≡ t → Ready t size → Ready (numbered t.phase (reached r) t) size
-leads_ready {q = q} {t = t} {r = r} h e k =
-    let nit : (reached r).counters.nit ≡ t.counters.nit = h.nit ∙ ap (λ (f : Fit). f.counters.nit) e in
-    let njev : (reached r).counters.njev ≡ t.counters.njev = h.njev ∙ ap (λ (f : Fit). f.counters.njev) e in
-    record { sound = k.sound; nit = rw nit k.nit; njev = rw njev k.njev; n = k.n }

@@ -16,6 +16,7 @@ use fit::{Extra, Fit, Phase, Place, Side};
 use gradient::Probes;
 
 // What a value at a probe changes of a fit: the probe that is asked, the value right of it, what is charged, and the log's numbers.
+// Kept: apart from the fit that they travel with. With the whole fit handed on from probe to probe a reply took some 156 ns, and with these 25 to 30.
 #[derive(Clone, Copy)]
 pub struct Probing {
     pub i: usize,
@@ -106,6 +107,7 @@ fn ask_probe(fit: Fit, numbers: Probing, i: usize, side: Side) -> Next
 }
 
 // Coordinate i and those after it: 0 where nothing is probed, up to the first that is.
+// Kept: an index. What is read and what is written stand in one lent slice.
 fn probe_from(fit: Fit, numbers: Probing, i: usize, area: &mut [f64]) -> Next
     requires { Sound fit.shape (length area.old) × (i ≤ fit.shape.n) }
     ensures { LeadsTo (λ w. probe_from (fit.shape.n - i) w i) numbers fit area.old result area.new }
@@ -209,10 +211,7 @@ pub fn settle(fit: Fit, place: Place, next: Next, area: &mut [f64]) -> Fit
 {
     match next {
         Next::Probe(numbers) => with_probe(fit, place, numbers),
-        Next::Complete(numbers) => {
-            let complete = with_numbers(fit, numbers);
-            judge::complete(complete, place, area)
-        }
+        Next::Complete(numbers) => judge::complete(with_numbers(fit, numbers), place, area),
         Next::Ended(numbers, why) => Fit {
             phase: Phase::Ended(why),
             ..with_numbers(fit, numbers)
@@ -228,8 +227,7 @@ pub fn on_not_supplied(fit: Fit, place: Place, area: &mut [f64]) -> Fit
     ensures { Steps (on_not_supplied (place_of place)) fit area.old result area.new }
 {
     area::fill(area, fit.shape.n, area::TRIAL_GRADIENT, 0.0);
-    let numbers = numbers_of(fit, 0, Side::Right);
-    let next = probe_from(fit, numbers, 0, area);
+    let next = probe_from(fit, numbers_of(fit, 0, Side::Right), 0, area);
     settle(fit, place, next, area)
 }
 
@@ -238,7 +236,6 @@ pub fn on_probe(fit: Fit, place: Place, i: usize, side: Side, value: f64, area: 
     requires { Ready fit (length area.old) × (i < fit.shape.n) }
     ensures { Steps (on_probe (place_of place) i (side_of side) value) fit area.old result area.new }
 {
-    let numbers = numbers_of(fit, i, side);
-    let next = next_probe(fit, numbers, value, area);
+    let next = next_probe(fit, numbers_of(fit, i, side), value, area);
     settle(fit, place, next, area)
 }

@@ -41,7 +41,7 @@ impl Reply {
     }
 
     // The reply of a kind, with the word that a value has; a failure past the kinds there are.
-    // Kept: a number, since in a log and in a record a kind is a word.
+    // Kept: a number, since in a log and in a record a kind is a word, and no option, since a public function that could not fail still can't.
     pub fn of_kind(kind: u64, word: u64) -> Reply
         ensures { result ≡ reply_at kind word }
     {
@@ -79,76 +79,26 @@ pub fn check_due(fit: Fit, reply: Reply) -> Result<(), Refusal>
     }
 }
 
-// A value, at a place or at a probe.
-fn on_value_word(fit: Fit, area: &mut [f64], word: u64) -> Fit
-    requires { Ready fit (length area.old) × InRange (phase_of fit.phase) fit.shape.n }
-    ensures { Steps (advanced (Value word)) fit area.old result area.new }
-{
-    match fit.phase {
-        Phase::Value(place) => judge::on_value(fit, place, float::word_to_float(word)),
-        Phase::Probe(place, i, side) => differences::on_probe(
-            fit,
-            place,
-            i,
-            side,
-            float::word_to_float(word),
-            area,
-        ),
-        _ => fit,
-    }
-}
-
-// A gradient, supplied or not.
-fn on_gradient(fit: Fit, area: &mut [f64], supplied: bool) -> Fit
-    requires { Ready fit (length area.old) }
-    ensures { Steps (advanced (cond supplied Gradient NotSupplied)) fit area.old result area.new }
-{
-    let Phase::Gradient(place) = fit.phase else {
-        return fit;
-    };
-    if supplied {
-        judge::complete(fit, place, area)
-    } else {
-        differences::on_not_supplied(fit, place, area)
-    }
-}
-
-// Go on, or stop: stop is looked at before the iteration budget.
-fn on_notice(fit: Fit, area: &mut [f64], stop: bool) -> Fit
-    requires { Ready fit (length area.old) }
-    ensures { Steps (advanced (cond stop Stop GoOn)) fit area.old result area.new }
-{
-    let Phase::Notice = fit.phase else {
-        return fit;
-    };
-    if stop {
-        fit::ended(fit, Termination::Cancelled)
-    } else {
-        notice::on_go_on(fit, area)
-    }
-}
-
-// The objective failed: the fit ends, unless it has.
-fn on_failure(fit: Fit) -> Fit
-    ensures { Turns (advanced Failure) fit result }
-{
-    match fit.phase {
-        Phase::Ended(_) => fit,
-        _ => fit::ended(fit, Termination::ObjectiveFailed),
-    }
-}
-
-// From a reply to the next question; a reply that is not due moves nothing.
+// From a reply to the next question; a reply that is not due moves nothing. A stop is looked at before the iteration budget.
 pub fn advance(fit: Fit, area: &mut [f64], reply: Reply) -> Fit
     requires { Ready fit (length area.old) × InRange (phase_of fit.phase) fit.shape.n }
     ensures { Steps (advanced reply) fit area.old result area.new }
 {
-    match reply {
-        Reply::Value(word) => on_value_word(fit, area, word),
-        Reply::Gradient => on_gradient(fit, area, true),
-        Reply::NotSupplied => on_gradient(fit, area, false),
-        Reply::GoOn => on_notice(fit, area, false),
-        Reply::Stop => on_notice(fit, area, true),
-        Reply::Failure => on_failure(fit),
+    match (reply, fit.phase) {
+        (Reply::Value(word), Phase::Value(place)) => {
+            judge::on_value(fit, place, float::word_to_float(word))
+        }
+        (Reply::Value(word), Phase::Probe(place, i, side)) => {
+            differences::on_probe(fit, place, i, side, float::word_to_float(word), area)
+        }
+        (Reply::Gradient, Phase::Gradient(place)) => judge::complete(fit, place, area),
+        (Reply::NotSupplied, Phase::Gradient(place)) => {
+            differences::on_not_supplied(fit, place, area)
+        }
+        (Reply::GoOn, Phase::Notice) => notice::on_go_on(fit, area),
+        (Reply::Stop, Phase::Notice) => fit::ended(fit, Termination::Cancelled),
+        (Reply::Failure, Phase::Ended(_)) => fit,
+        (Reply::Failure, _) => fit::ended(fit, Termination::ObjectiveFailed),
+        _ => fit,
     }
 }

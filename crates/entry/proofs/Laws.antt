@@ -1,55 +1,37 @@
 -- Laws of the C entry: what the operations answer for a fit that is held, and what is returned by each answer. Assumes nothing.
-use Prim.Native.Nat.{ℕ, ◌+◌, ◌*◌, ◌/◌, ◌≤◌, ◌<◌}
+use Prim.Native.Nat.{ℕ, ◌≤◌}
 use native.Mathlib.Omega.{arith}
 use mathlib.Core.Path.{◌≡◌, refl, sym, ap, ◌∙◌, subst}
 use mathlib.Core.Bool.{Bool, true, false, cond}
-use mathlib.Core.List.{List, [], map}
+use mathlib.Core.List.{List, []}
 use Rattle.std.specs.Prelude.{Option, None, Some, Result, Ok, Err}
 use Rattle.std.specs.Result.{result_unwrap_or}
-use borrow.Author.Tests.{lt-ltb, le-ltb}
+use borrow.Author.Tests.{le-ltb}
 use lib.Dec.{eqb, ltb}
 use lib.ListN.{length, take}
-use lib.Seq.{length-take-le}
 use lib.Ieee.{Float}
-use Rattle.definition.specs.Number.{to_word}
 use Rattle.definition.specs.Problem as P
 use Rattle.definition.specs.Problem.{refuse, when, ◌then◌, dimension}
 use Rattle.definition.specs.Machine as M
 use Rattle.definition.specs.Machine.{Machine, Phase, Question, question_in, question, status_of, unreported, report_now}
-use Rattle.definition.specs.Record.{Reading, plain_refusal, bytes}
+use Rattle.definition.specs.Record.{Reading, plain_refusal}
 use Rattle.definition.specs.Replies.{Accepted}
 use Rattle.definition.specs.History as H
 use Rattle.definition.specs.Book.{Book, run_of}
 use Rattle.definition.specs.History.{Call, most_refusal, output_short, check_question, refused_by}
-use Rattle.definition.specs.Programs.{input_coordinates, read_input, return_point, return_end, return_fit, return_of}
+use Rattle.definition.specs.Programs.{input_coordinates, return_point, return_end, return_fit}
 use Rattle.definition.proofs.Accepted.{accepted_in_limits}
 use Rattle.problem.specs.Setups.{refusal_of}
 use Rattle.problem.specs.declared.Refusal.{Refusal}
 use Rattle.fit.specs.declared.Fit.{Fit}
 use Rattle.fit.specs.declared.Kind.{Kind}
 use Rattle.fit.specs.State.{kind_number}
-use Rattle.question.specs.Reports.{written, report_of}
+use Rattle.question.specs.Reports.{report_of}
 use Rattle.question.specs.declared.Outcome.{Outcome}
 use Rattle.held.proofs.Test.{ready_facts, held_ready}
-use Rattle.lbfgsb.specs.Words.{words, Held}
 use Rattle.lbfgsb.specs.Bridge.{asked, told}
 use Rattle.input.specs.Input.{Taken}
-use Rattle.definition.proofs.Numbered.{ReadNumbered, table_numbers, input_numbered, restores}
 use Rattle.entry.specs.Entry.{Returns, HasEnded}
-
--- ---- a point
-
-module _ (number n : ℕ) (x : List Float) (out : List ℕ) (h : n ≤ length x) where
-  pub point_short : length out / 8 < n → Returns (return_point (length out) number (take n x)) 119 out out
-  point_short l =
-      let size = length-take-le n x h in
-      rw (lt-ltb (length out) (8 * length (take n x)) (omega (arith, size))) (record { number = refl; output = refl })
-
-  pub point_put : (out' : List ℕ) → n ≤ length out / 8 → out' ≡ written (bytes (map to_word (take n x))) out
-      → Returns (return_point (length out) number (take n x)) number out out'
-  point_put out' l e =
-      let size = length-take-le n x h in
-      rw (le-ltb (length out) (8 * length (take n x)) (omega (arith, size))) (record { number = refl; output = e })
 
 -- ---- what is answered for a fit that is held, with room for its coordinates
 
@@ -151,34 +133,3 @@ module _ (a : List Float) (l : List ℕ) where
 
   pub read_small : (d : Reading) (r : Result Fit Refusal) (f : Fit) → r ≡ Ok f → Taken d r a l → f.shape.n ≤ input_coordinates
   read_small d r f e h = small d f (subst (λ (x : Result Fit Refusal). Taken d x a l) e h)
-
-  abbrev Fitted : Fit → ℕ → ℕ → List ℕ → List ℕ → Type 0
-  Fitted f room k out out' =
-      (l : List ℕ) (b : Book) → Held (words f a l) b → Returns (return_fit room (run_of b) (question (run_of b))) k out out'
-
-  kept : (d : Reading) (f : Fit) (room k : ℕ) (out out' : List ℕ) → Taken d (Ok f) a l → Fitted f room k out out' → Returns (return_of room d) k out out'
-  kept (Reading.accepted b) f room k out out' h g = g l b h
-  kept (Reading.refused c) f room k out out' h g = absurd h
-  kept (Reading.refused_at_entry c) f room k out out' h g = absurd h
-
-  pub read_kept : (d : Reading) (r : Result Fit Refusal) (f : Fit) (room k : ℕ) (out out' : List ℕ) → r ≡ Ok f → Taken d r a l → Fitted f room k out out'
-      → Returns (return_of room d) k out out'
-  read_kept d r f room k out out' e h g = kept d f room k out out' (subst (λ (x : Result Fit Refusal). Taken d x a l) e h) g
-
-  few : (d : Reading) (c : Refusal) → ReadNumbered d → Taken d (Err c) a l → (refusal_of c).number ≤ most_refusal
-  few (Reading.accepted b) c n h = absurd h
-  few (Reading.refused k) c n h = omega (arith, ap (λ (x : P.Refusal). x.number) h, (table_numbers (Call.restore []) k.number n).1)
-  few (Reading.refused_at_entry k) c n h =
-      omega (arith, ap (λ (x : P.Refusal). x.number) h, (table_numbers (Call.restore []) k.number (restores (Reading.refused_at_entry k) n)).1)
-
-  pub read_few : (bs : List ℕ) (r : Result Fit Refusal) (c : Refusal) → r ≡ Err c → Taken (read_input bs) r a l → (refusal_of c).number ≤ most_refusal
-  read_few bs r c e h = few (read_input bs) c (input_numbered bs) (subst (λ (x : Result Fit Refusal). Taken (read_input bs) x a l) e h)
-
-  refused : (d : Reading) (c : Refusal) (room : ℕ) (out : List ℕ) → Taken d (Err c) a l → Returns (return_of room d) (100 + (refusal_of c).number) out out
-  refused (Reading.accepted b) c room out h = absurd h
-  refused (Reading.refused k) c room out h = record { number = ap (λ (x : P.Refusal). 100 + x.number) h; output = refl }
-  refused (Reading.refused_at_entry k) c room out h = record { number = ap (λ (x : P.Refusal). 100 + x.number) h; output = refl }
-
-  pub read_refused : (d : Reading) (r : Result Fit Refusal) (c : Refusal) (room : ℕ) (out : List ℕ) → r ≡ Err c → Taken d r a l
-      → Returns (return_of room d) (100 + (refusal_of c).number) out out
-  read_refused d r c room out e h = refused d c room out (subst (λ (x : Result Fit Refusal). Taken d x a l) e h)

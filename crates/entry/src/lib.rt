@@ -14,11 +14,11 @@ ghost use Rattle.entry.specs.Entry.{Returns, HasEnded};
 use lbfgsb::Fit;
 
 // The words of the floats, little-endian, into the front of the output.
+// Kept: an index. What `chunks_exact_mut` leaves in the output is not known to a proof.
 fn put_floats(out: &mut [u8], point: &[f64])
     requires { 8 * length point.now ≤ length out.old }
     ensures { out.new ≡ written (bytes (map to_word point.now)) out.old }
 {
-    // Kept: an index. What `chunks_exact_mut` leaves in the output is not known to a proof.
     for (i, x) in point.iter().enumerate() {
         record::put_word(out, 8 * i, float::float_to_word(*x));
     }
@@ -56,8 +56,7 @@ fn answer(fit: Fit, area: &[f64], out: &mut [u8]) -> u64
         → Returns (return_fit (length out.old) (run_of b) (question (run_of b))) result out.old out.new }
 {
     let mut point = [0.0f64; input::COORDINATES];
-    let asked = lbfgsb::question(fit, area, &mut point).unwrap_or(None);
-    let Some(kind) = asked else {
+    let Some(kind) = lbfgsb::question(fit, area, &mut point).unwrap_or(None) else {
         return ended(fit, area, out);
     };
     put_point(out, kind.number() as u64, &point, fit.shape.n)

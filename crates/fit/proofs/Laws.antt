@@ -9,9 +9,9 @@ use Rattle.definition.specs.Compact.{Compact, Pair, wrap}
 use Rattle.definition.specs.Counters as C
 use Rattle.definition.specs.Machine as M
 use Rattle.definition.specs.Driver.{ask_value}
-use Rattle.area.specs.Area.{Vecs, view, upd, first_pair, first_column, vectors, FreeKept, ScratchOnly}
+use Rattle.area.specs.Area.{Vecs, view, upd, first_pair, first_column, FreeKept}
 use Rattle.area.specs.Area.{Saved, vector_x, vector_g, vector_lower, vector_upper, vector_x0, vector_trial, vector_trial_gradient, vector_direction}
-use Rattle.area.proofs.Laws.{saved_refl, saved_trans, saved_scratch}
+use Rattle.area.proofs.Laws.{saved_refl, saved_trans}
 use Rattle.counters.specs.Counts.{value_charge}
 use Rattle.counters.proofs.Laws.{charge_made, charge_spent}
 use Rattle.compact.specs.declared.Shape.{Shape}
@@ -80,12 +80,9 @@ low_same ps t v w h =
 pub same : (t : Fit) (v w : Vecs) → pairs_of t.shape w ≡ pairs_of t.shape v → ((q : ℕ) → q < 8 → w q ≡ v q) → machine t w ≡ machine t v
 same t v w e h = ap (λ (ps : List Pair). machine_with ps t w) e ∙ low_same (pairs_of t.shape v) t v w h
 
--- only scratch is written
-pub scratch_same : (t : Fit) {v w : Vecs} → ScratchOnly v w → machine t w ≡ machine t v
-scratch_same t {v} {w} h = same t v w (models.pairs_kept t.shape v w h.high) h.low
-
 -- the pairs stand below the columns
-pub pairs_same : (h : Shape) {size : ℕ} (v w : Vecs) → Sound h size → ((q : ℕ) → first_pair ≤ q → q < first_column h.m → w q ≡ v q) → pairs_of h w ≡ pairs_of h v
+pub pairs_same : (h : Shape) {size : ℕ} (v w : Vecs) → Sound h size → ((q : ℕ) → first_pair ≤ q → q < first_column h.m → w q ≡ v q)
+    → pairs_of h w ≡ pairs_of h v
 unfolding pairs_of
 pairs_same h v w r k =
     tab_same h.pairs (pair_at h w) (pair_at h v)
@@ -167,10 +164,7 @@ steps_at_lem {F = F} {t = t} h e x g = record {
   is = h.is ∙ ap (λ (v : Vecs). F (machine t v)) e ∙ g;
 }
 
--- the machine stays, where only scratch, or scratch and the columns, are written
-pub scratch_stays : {t : Fit} {a b : List Float} → ScratchOnly (view a t.shape.n) (view b t.shape.n) → Steps (λ (m : M.Machine). m) t a t b
-scratch_stays {t} h = moved refl kept_refl refl (saved_scratch h) (scratch_same t h)
-
+-- the machine stays, where only scratch and the columns are written
 pub model_stays : {t : Fit} {size : ℕ} {a b : List Float} → Sound t.shape size
     → ((q : ℕ) → q < 8 → view b t.shape.n q ≡ view a t.shape.n q) → FreeKept (view a t.shape.n) (view b t.shape.n)
     → ((q : ℕ) → first_pair ≤ q → q < first_column t.shape.m → view b t.shape.n q ≡ view a t.shape.n q) → Steps (λ (m : M.Machine). m) t a t b
@@ -211,9 +205,6 @@ unfolding ask_value
 charge_ends p m e = rw (charge_spent m.limits m.counters e)
 
 -- ---- room
-
-pub slot_room : {h : Shape} {size : ℕ} (k : ℕ) → Sound h size → k < vectors h.m → k * h.n + h.n ≤ size
-slot_room k r l = vector_room k r l
 
 pub low_room : {h : Shape} {size : ℕ} (p : ℕ) → Sound h size → p < first_pair → p * h.n + h.n ≤ size
 low_room p r l = vector_room p r (omega arith)

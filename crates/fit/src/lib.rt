@@ -30,6 +30,7 @@ pub enum Side {
 pub enum Phase {
     Value(Place),
     Gradient(Place),
+    // Kept: coordinate and side apart, as the definition has them.
     Probe(Place, usize, Side),
     Notice,
     Ended(Termination),
@@ -38,13 +39,13 @@ pub enum Phase {
 // The kind of a question.
 #[derive(Clone, Copy, Debug, PartialEq, Eq)]
 pub enum Kind {
-    Value,
-    Gradient,
-    Notice,
+    Value = 1,
+    Gradient = 2,
+    Notice = 3,
 }
 
 // What is counted of the log, and not the machine's: the entries kept, and their words.
-#[derive(Clone, Copy, Debug, PartialEq, Eq)]
+#[derive(Clone, Copy, Debug, Default, PartialEq, Eq)]
 pub struct Extra {
     pub entries: usize,
     pub words: usize,
@@ -54,6 +55,7 @@ pub struct Extra {
 pub const MOST_WORDS: usize = 0x0100_0000_0000_0000;
 
 // The state of a fit but for its vectors, which stand in the area.
+// Kept: the state goes by value with the area lent beside it, since the C interface and the exported operations have it so.
 #[derive(Clone, Copy)]
 pub struct Fit {
     pub shape: Shape,
@@ -76,11 +78,7 @@ impl Kind {
     pub fn number(self) -> usize
         ensures { result ≡ kind_number (Some self) }
     {
-        match self {
-            Kind::Value => 1,
-            Kind::Gradient => 2,
-            Kind::Notice => 3,
-        }
+        self as usize
     }
 }
 
@@ -161,6 +159,8 @@ pub fn counted(fit: Fit, length: usize) -> Fit
     requires { (fit.extra.entries + 1 < usizes) × (fit.extra.words + length < usizes) }
     ensures { result ≡ with_extra (more_kept fit.extra length) fit }
 {
-    let extra = one_more(fit.extra, length);
-    Fit { extra, ..fit }
+    Fit {
+        extra: one_more(fit.extra, length),
+        ..fit
+    }
 }

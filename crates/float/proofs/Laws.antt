@@ -61,7 +61,8 @@ up_is x h =
     let s : eqb (to_word x) (to_word x % sign_bit) ≡ ltb (to_word x) sign_bit = grind arith in
     simp s (go (eqb (to_word x) infinity_word) (eqb (to_word x % sign_bit) 0) (ltb (to_word x) sign_bit) r)
   where
-    go : (p q s : Bool) → to_float (to_word x) ≡ x → cond (is_nan x) x (cond p x (cond q (to_float 1) (cond s (to_float (to_word x + 1)) (to_float (to_word x - 1)))))
+    go : (p q s : Bool) → to_float (to_word x) ≡ x
+        → cond (is_nan x) x (cond p x (cond q (to_float 1) (cond s (to_float (to_word x + 1)) (to_float (to_word x - 1)))))
         ≡ cond (is_nan x) x (to_float (cond p (to_word x) (cond q 1 (cond s (to_word x + 1) (to_word x - 1)))))
     go true q s r = rw r
     go false true s r = refl

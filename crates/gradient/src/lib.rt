@@ -3,11 +3,11 @@
 
 ghost use Rattle.std.specs.Prelude.{◌+◌, ◌*◌, ◌≤◌, ◌<◌, ◌≡◌, length};
 ghost use Rattle.definition.specs.Vector.{word};
-ghost use Rattle.definition.specs.Gradient.{relative_step, plus_point, minus_point, probes as probes_by};
+ghost use Rattle.definition.specs.Gradient.{relative_step, plus_point, minus_point};
 ghost use Rattle.definition.specs.Gradient.{both_quotient, right_quotient, left_quotient};
 ghost use Rattle.area.specs.Area.{first_pair, vector_trial, vector_lower, vector_upper};
 ghost use Rattle.problem.specs.Setups.{scheme_of};
-ghost use Rattle.gradient.specs.Probing.{probes_in, step_for, probes_for};
+ghost use Rattle.gradient.specs.Probing.{probes_in, step_for, taken_of, probes_by, probes_for};
 
 use problem::{Options, Scheme};
 
@@ -38,8 +38,8 @@ fn difference_step(options: &Options, x: f64) -> f64
     options.eps.unwrap_or_else(|| relative_step(options.scheme) * float::max(float::abs(x), 1.0))
 }
 
-// Kept: right and left are apart, since they differ in each operation: one form of both would take them all as parameters.
 // A step h to the right, within the box, or the next float where it does not move and there is room.
+// Kept: right and left are apart, since they differ in each operation: one form of both would take them all as parameters.
 fn plus_point(h: f64, x: f64, high: f64) -> f64
     ensures { result ≡ plus_point h x high }
 {
@@ -63,20 +63,31 @@ fn minus_point(h: f64, x: f64, low: f64) -> f64
     }
 }
 
-// Both sides under Central only; else the right one where it can be taken.
-fn probes_by(right: bool, left: bool, scheme: Scheme, plus: f64, minus: f64) -> Probes
-    ensures { probes_in result ≡ probes_by right left (scheme_of scheme) plus minus }
+// The point, where it is finite and moves.
+fn taken(point: f64, moves: bool) -> Option<f64>
+    ensures { result ≡ taken_of point moves }
 {
-    match (right, left, scheme) {
-        (true, true, Scheme::Central) => Probes::Both(plus, minus),
-        (true, true, Scheme::Forward) => Probes::RightOnly(plus),
-        (true, false, _) => Probes::RightOnly(plus),
-        (false, true, _) => Probes::LeftOnly(minus),
-        (false, false, _) => Probes::Neither,
+    if float::is_finite(point) && moves {
+        Some(point)
+    } else {
+        None
     }
 }
 
-// Coordinate x between its bounds: nothing where they are equal. A point is taken where it is finite and moves.
+// Both sides under Central only; else the right one where it is taken.
+fn probes_by(scheme: Scheme, right: Option<f64>, left: Option<f64>) -> Probes
+    ensures { probes_in result ≡ probes_by right left (scheme_of scheme) }
+{
+    match (right, left, scheme) {
+        (Some(plus), Some(minus), Scheme::Central) => Probes::Both(plus, minus),
+        (Some(plus), _, _) => Probes::RightOnly(plus),
+        (None, Some(minus), _) => Probes::LeftOnly(minus),
+        (None, None, _) => Probes::Neither,
+    }
+}
+
+// Coordinate x between its bounds: nothing where they are equal.
+#[tactic(auto, using(crate::proofs::Laws::probes_by_is))]
 fn probes_between(options: &Options, x: f64, low: f64, high: f64) -> Probes
     ensures { probes_in result ≡ probes_for options.now.eps (scheme_of options.now.scheme) x low high }
 {
@@ -86,9 +97,11 @@ fn probes_between(options: &Options, x: f64, low: f64, high: f64) -> Probes
     let h = difference_step(options, x);
     let plus = plus_point(h, x, high);
     let minus = minus_point(h, x, low);
-    let right = float::is_finite(plus) && x < plus;
-    let left = float::is_finite(minus) && minus < x;
-    probes_by(right, left, options.scheme, plus, minus)
+    probes_by(
+        options.scheme,
+        taken(plus, x < plus),
+        taken(minus, minus < x),
+    )
 }
 
 // What is probed of coordinate i of the trial point.

@@ -29,7 +29,8 @@ use Rattle.held.specs.Words.{words, Held}
 -- ---- the setup that state and area hold
 
 -- options and the three vectors make it
-pub setup_same : (o : Options) (v w : Vecs) → w vector_x0 ≡ v vector_x0 → w vector_lower ≡ v vector_lower → w vector_upper ≡ v vector_upper → setup_at o w ≡ setup_at o v
+pub setup_same : (o : Options) (v w : Vecs) → w vector_x0 ≡ v vector_x0 → w vector_lower ≡ v vector_lower → w vector_upper ≡ v vector_upper
+    → setup_at o w ≡ setup_at o v
 setup_same o v w x l u = rw (x, l, u)
 
 -- the mark touches none of it

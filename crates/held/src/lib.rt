@@ -31,10 +31,10 @@ fn counts_held(counters: Counters) -> bool
     counters.nit < counters::MOST_COUNTED && counters.njev < counters::MOST_COUNTED
 }
 
-fn log_held(entries: usize, words: usize) -> bool
-    ensures { result ≡ log_held entries words }
+fn log_held(extra: Extra) -> bool
+    ensures { result ≡ log_held extra.entries extra.words }
 {
-    entries < fit::MOST_WORDS && words < fit::MOST_WORDS
+    extra.entries < fit::MOST_WORDS && extra.words < fit::MOST_WORDS
 }
 
 // A probe is of a coordinate that there is.
@@ -55,7 +55,7 @@ pub fn is_ready(fit: Fit, size: usize) -> bool
     shape_held(fit.shape, size)
         && fit.options.places() == fit.shape.m
         && counts_held(fit.counters)
-        && log_held(fit.extra.entries, fit.extra.words)
+        && log_held(fit.extra)
         && phase_held(fit.phase, fit.shape.n)
 }
 
@@ -85,15 +85,6 @@ pub fn mark(area: &mut [f64], shape: Shape)
 
 // ---- the state that holds no fit
 
-fn no_limits() -> Limits {
-    Limits {
-        ftol: 0.0,
-        gtol: 0.0,
-        maxiter: 0,
-        maxfev: 0,
-    }
-}
-
 // A state that holds no fit, with any area.
 pub fn empty() -> Fit
     ensures { (a : List Float) → is_held result a ≡ false }
@@ -106,12 +97,8 @@ pub fn empty() -> Fit
             oldest: 0,
         },
         options: problem::no_options(),
-        limits: no_limits(),
-        counters: Counters {
-            nit: 0,
-            nfev: 0,
-            njev: 0,
-        },
+        limits: Limits::default(),
+        counters: Counters::default(),
         phase: Phase::Notice,
         search: search::no_search(),
         value: 0.0,
@@ -119,9 +106,6 @@ pub fn empty() -> Fit
         right_value: 0.0,
         value_before: 0.0,
         theta: 0.0,
-        extra: Extra {
-            entries: 0,
-            words: 0,
-        },
+        extra: Extra::default(),
     }
 }

@@ -16,7 +16,8 @@ use Rattle.definition.specs.Counters.{Termination}
 use Rattle.definition.specs.Machine.{State, Machine, state, with_compact, ending}
 use Rattle.definition.specs.Driver.{Ends, ends_from, ends_of, search_along, towards, without_pairs, descend, gradient_small, iterate}
 use Rattle.float.proofs.Constants.{one_word}
-use Rattle.area.specs.Area.{Vecs, bounds_of, view, first_pair, ScratchOnly, given, vector_x, vector_g, vector_lower, vector_upper, vector_direction, vector_cauchy}
+use Rattle.area.specs.Area.{Vecs, bounds_of, view, first_pair, ScratchOnly, given}
+use Rattle.area.specs.Area.{vector_x, vector_g, vector_lower, vector_upper, vector_direction, vector_cauchy}
 use Rattle.area.proofs.Laws.{saved_refl, saved_upd}
 use Rattle.compact.specs.declared.Shape.{Shape}
 use Rattle.compact.specs.State.{pairs_of, compact_of, Sound, PairsKept}

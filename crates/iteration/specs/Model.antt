@@ -21,5 +21,6 @@ pub record MachineKept (h : Shape) (a b : Vecs) : Type 0 where
 
 -- the ends of the model of a stand in their vectors of b; f is the value of the point held, which does not matter here
 pub record Offers (h : Shape) (theta : Float) (a : Vecs) (ok : Bool) (b : Vecs) : Type 0 where
-  pub is : (t : Terms) → t.n ≡ h.n → t.bounds ≡ bounds_of a → (f : Float) → ends_where ok b ≡ ends_of t (compact_of h theta a) (state (a vector_x) f (a vector_g))
+  pub is : (t : Terms) → t.n ≡ h.n → t.bounds ≡ bounds_of a → (f : Float)
+      → ends_where ok b ≡ ends_of t (compact_of h theta a) (state (a vector_x) f (a vector_g))
   pub kept : MachineKept h a b

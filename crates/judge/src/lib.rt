@@ -76,13 +76,12 @@ fn move_on(fit: Fit, area: &mut [f64]) -> Fit
 }
 
 // A trial with its gradient: the run ends here unless the search hands back a step.
-// Kept: a rule of the project, that the run ends here unless the search hands back a step: `let .. else`.
+// Kept: a rule of the project, that a run ends by `let .. else` on the search's enum.
 fn judge_trial(fit: Fit, area: &mut [f64]) -> Fit
     requires { Sound fit.shape (length area.old) × (fit.counters.nit < most_counted) }
     ensures { Steps judge_trial fit area.old result area.new }
 {
-    let n = fit.shape.n;
-    let slope = area::dot(area, n, area::TRIAL_GRADIENT, area::DIRECTION);
+    let slope = area::dot(area, fit.shape.n, area::TRIAL_GRADIENT, area::DIRECTION);
     let verdict = search::judge(fit.search, fit.value, fit.trial_value, slope);
     if let Verdict::Accepted = verdict {
         let learnt = learn(fit, area);

@@ -6,7 +6,7 @@ ghost use Rattle.std.specs.Prelude.{◌≡◌, ◌+◌, ◌*◌, ◌≤◌, ◌<
 ghost use Rattle.area.specs.Area.{first_pair};
 ghost use Rattle.compact.specs.State.{Sound};
 
-use cases::{size, word};
+use cases::{Word, behind, size, word};
 use compact::{Model, Shape};
 use solve::{Matrix, Row, SIZE};
 use std::io::Read;
@@ -78,13 +78,13 @@ impl Counts {
 }
 
 impl fmt::Display for Counts {
-    fn fmt<W: fmt::Write>(&self, f: &mut fmt::Formatter<W>) -> fmt::Result {
-        writeln!(f, "next_up {} equal", self.next_up)?;
-        writeln!(f, "solve {} equal", self.solve)?;
-        writeln!(f, "update {} equal", self.update)?;
-        writeln!(f, "times {} equal", self.times)?;
-        writeln!(f, "geometry {} equal", self.geometry)?;
-        writeln!(f, "different {}", self.different)
+    fn fmt<W: fmt::Write>(&self, formatter: &mut fmt::Formatter<W>) -> fmt::Result {
+        writeln!(formatter, "next_up {} equal", self.next_up)?;
+        writeln!(formatter, "solve {} equal", self.solve)?;
+        writeln!(formatter, "update {} equal", self.update)?;
+        writeln!(formatter, "times {} equal", self.times)?;
+        writeln!(formatter, "geometry {} equal", self.geometry)?;
+        writeln!(formatter, "different {}", self.different)
     }
 }
 
@@ -94,178 +94,177 @@ const MOST: usize = 16;
 // The words of an area for so many coordinates and pairs.
 const ROOM: usize = 1280;
 
-// The bytes of the largest case.
-const LARGEST: usize = 65_536;
+// The words of the largest case.
+const LARGEST: usize = 8_192;
 
 // ---- solve: n, the rows, the right side; whether there is a solution, and its words
 
-// A row of n words, from word i on.
-fn row(s: &[u8], i: usize, n: usize) -> Row
+// A row of n words.
+fn row(words: &[Word], n: usize) -> Row
     requires { n ≤ SIZE }
 {
-    let mut r = [0.0; SIZE];
-    cases::put_floats(&mut r[..n], s, i);
-    r
+    let mut row = [0.0; SIZE];
+    cases::put_floats(&mut row[..n], words);
+    row
 }
 
-// n rows of n words, from word i on.
-fn rows(s: &[u8], i: usize, n: usize) -> Matrix
+// n rows of n words.
+fn rows(words: &[Word], n: usize) -> Matrix
     requires { n ≤ SIZE }
 {
-    let mut a = [[0.0; SIZE]; SIZE];
-    let mut at = i;
-    for place in a[..n].iter_mut() {
-        *place = row(s, at, n);
-        at = at.wrapping_add(n);
+    let mut rows = [[0.0; SIZE]; SIZE];
+    let mut rest = words;
+    for place in rows[..n].iter_mut() {
+        *place = row(rest, n);
+        rest = behind(rest, n);
     }
-    a
+    rows
 }
 
-// Whether the answer is the one that stands from word i on.
-fn is_solved(s: &[u8], i: usize, n: usize, answer: Option<Row>) -> bool {
-    let Some(x) = answer else {
-        return word(s, i) == 0;
+// Whether the answer is that of the words.
+fn is_solved(words: &[Word], n: usize, answer: Option<Row>) -> bool {
+    let Some(solution) = answer else {
+        return word(words, 0) == 0;
     };
-    word(s, i) == 1 && cases::are_floats(s, i.wrapping_add(1), n, &x)
+    word(words, 0) == 1 && cases::are_floats(behind(words, 1), n, &solution)
 }
 
-fn solve_case(s: &[u8]) -> bool {
-    let n = size(s, 0);
+fn solve_case(words: &[Word]) -> bool {
+    let n = size(words, 0);
     if n > SIZE {
         return false;
     }
-    let right = 1 + n * n;
-    let a = rows(s, 1, n);
-    let b = row(s, right, n);
-    let r = solve::solve(n, a, b);
-    is_solved(s, right.wrapping_add(n), n, r)
+    let left = behind(words, 1);
+    let right = behind(left, n * n);
+    let answer = solve::solve(n, rows(left, n), row(right, n));
+    is_solved(behind(right, n), n, answer)
 }
 
 // ---- a model: n, maxcor, the number of pairs, theta, and the pairs; then vectors
 
-fn shape(s: &[u8]) -> Shape {
+fn shape(words: &[Word]) -> Shape {
     Shape {
-        n: size(s, 0),
-        m: size(s, 1),
-        pairs: size(s, 2),
+        n: size(words, 0),
+        m: size(words, 1),
+        pairs: size(words, 2),
         oldest: 0,
     }
 }
 
 // Whether the numbers of a case are in range, and an area of so many words has room.
-fn fits(h: Shape, words: usize) -> bool
-    ensures { IsTrue result → Sound h words × (h.n ≤ 16) }
+fn fits(shape: Shape, room: usize) -> bool
+    ensures { IsTrue result → Sound shape room × (shape.n ≤ 16) }
 {
-    h.n <= MOST
-        && h.m <= MOST
-        && h.pairs <= h.m
-        && h.oldest < h.m
-        && (area::FIRST_PAIR + 4 * h.m) * h.n <= words
+    shape.n <= MOST
+        && shape.m <= MOST
+        && shape.pairs <= shape.m
+        && shape.oldest < shape.m
+        && (area::FIRST_PAIR + 4 * shape.m) * shape.n <= room
 }
 
-// Vector p becomes the words from at on. The answer is the word after them.
-fn load(area: &mut [f64], n: usize, p: usize, s: &[u8], at: usize) -> usize
-    requires { p * n + n ≤ length area.old }
+// A vector of the area becomes the first words. The answer is the words behind them.
+fn load<'a>(area: &mut [f64], n: usize, vector: usize, words: &'a [Word]) -> &'a [Word]
+    requires { vector * n + n ≤ length area.old }
 {
-    cases::put_floats(&mut area[p * n..p * n + n], s, at);
-    at.wrapping_add(n)
+    cases::put_floats(&mut area[vector * n..vector * n + n], words);
+    behind(words, n)
 }
 
-// The pairs go to their places. The answer is the word after them.
-fn load_pairs(area: &mut [f64], h: Shape, s: &[u8]) -> usize
-    requires { Sound h (length area.old) }
+// The pairs of a case go to their places. The answer is the words behind them.
+fn load_pairs<'a>(area: &mut [f64], shape: Shape, words: &'a [Word]) -> &'a [Word]
+    requires { Sound shape (length area.old) }
 {
-    let end = area::FIRST_PAIR + 2 * h.pairs;
-    let mut at = 4;
-    for p in area::FIRST_PAIR..end {
-        at = load(area, h.n, p, s, at);
+    let end = area::FIRST_PAIR + 2 * shape.pairs;
+    let mut rest = behind(words, 4);
+    for vector in area::FIRST_PAIR..end {
+        rest = load(area, shape.n, vector, rest);
     }
-    at
+    rest
 }
 
-// The vectors behind the model go to their places. The answer is the word after them.
-fn load_inputs(area: &mut [f64], h: Shape, kind: Kind, s: &[u8], first: usize) -> usize
-    requires { Sound h (length area.old) }
+// The vectors behind the model go to their places. The answer is the words behind them.
+fn load_inputs<'a>(area: &mut [f64], shape: Shape, kind: Kind, words: &'a [Word]) -> &'a [Word]
+    requires { Sound shape (length area.old) }
 {
-    let mut at = first;
-    for p in kind.inputs() {
-        at = load(area, h.n, *p, s, at);
+    let mut rest = words;
+    for vector in kind.inputs() {
+        rest = load(area, shape.n, *vector, rest);
     }
-    at
+    rest
 }
 
-// Whether vector p has the bits of the words from at on.
-fn is_vector(area: &[f64], n: usize, p: usize, s: &[u8], at: usize) -> bool
-    requires { p * n + n ≤ length area.now }
+// Whether a vector of the area has the bits of the words.
+fn is_vector(area: &[f64], n: usize, vector: usize, words: &[Word]) -> bool
+    requires { vector * n + n ≤ length area.now }
 {
-    cases::are_floats(s, at, n, &area[p * n..p * n + n])
+    cases::are_floats(words, n, &area[vector * n..vector * n + n])
 }
 
-// Whether the flag at word i is 1 just where ok, and vector p then has the bits of the words behind it.
+// Whether the first word is 1 just where the vector is there, and the vector then has the bits of the words behind it.
 // Kept: a bool beside the area, in which the vector stands.
-fn is_flagged(area: &[f64], n: usize, p: usize, ok: bool, s: &[u8], i: usize) -> bool
-    requires { p * n + n ≤ length area.now }
+fn is_flagged(area: &[f64], n: usize, vector: usize, there: bool, words: &[Word]) -> bool
+    requires { vector * n + n ≤ length area.now }
 {
-    if !ok {
-        return word(s, i) == 0;
+    if !there {
+        return word(words, 0) == 0;
     }
-    word(s, i) == 1 && is_vector(area, n, p, s, i.wrapping_add(1))
+    word(words, 0) == 1 && is_vector(area, n, vector, behind(words, 1))
 }
 
 // ---- update: a model, s, y; whether the pair is kept, theta, the number of pairs, whether there is one, s·y of the newest
 
-// Whether the pairs are those of the case from word at on.
-fn are_pairs(area: &[f64], h: Shape, s: &[u8], at: usize) -> bool
-    requires { Sound h (length area.now) }
+// Whether the pairs are those of the words.
+fn are_pairs(area: &[f64], shape: Shape, words: &[Word]) -> bool
+    requires { Sound shape (length area.now) }
 {
-    let mut i = at;
-    for k in 0..h.pairs {
-        let p = compact::pair_slot(h, k);
-        let j = i.wrapping_add(h.n);
-        if !is_vector(area, h.n, p, s, i) || !is_vector(area, h.n, p + 1, s, j) {
+    let mut rest = words;
+    for pair in 0..shape.pairs {
+        let slot = compact::pair_slot(shape, pair);
+        let second = behind(rest, shape.n);
+        if !is_vector(area, shape.n, slot, rest) || !is_vector(area, shape.n, slot + 1, second) {
             return false;
         }
-        i = j.wrapping_add(h.n);
+        rest = behind(second, shape.n);
     }
     true
 }
 
-// Whether the newest pair's s·y is the word after the flag at word i, and there is none where that is 0.
-fn is_newest(area: &[f64], h: Shape, s: &[u8], i: usize) -> bool
-    requires { Sound h (length area.now) }
+// Whether the newest pair's s·y is the word behind a first word of 1, and that is 0 where there is no pair.
+fn is_newest(area: &[f64], shape: Shape, words: &[Word]) -> bool
+    requires { Sound shape (length area.now) }
 {
-    if h.pairs == 0 {
-        return word(s, i) == 0;
+    if shape.pairs == 0 {
+        return word(words, 0) == 0;
     }
-    let p = compact::pair_slot(h, h.pairs - 1);
-    word(s, i) == 1 && cases::is_float(s, i.wrapping_add(1), area::dot(area, h.n, p, p + 1))
+    let slot = compact::pair_slot(shape, shape.pairs - 1);
+    word(words, 0) == 1 && cases::is_float(words, 1, area::dot(area, shape.n, slot, slot + 1))
 }
 
-// Whether the pairs and theta are those of the answer from word at on. Where the old pairs and the new one, if it is kept, are more
-// than maxcor, the oldest is dropped: s and y stand behind the old pairs, as one pair more.
-fn is_updated(area: &[f64], h: Shape, theta: f64, s: &[u8], at: usize) -> bool
-    requires { Sound h (length area.now) }
+// Whether the pairs and theta are those of a case and its answer. Where the old pairs and the new one, if it is kept, are more than
+// maxcor, the oldest is dropped: s and y stand behind the old pairs, as one pair more.
+fn is_updated(area: &[f64], shape: Shape, theta: f64, words: &[Word], answer: &[Word]) -> bool
+    requires { Sound shape (length area.now) }
 {
-    let offered = size(s, 2).wrapping_add(size(s, at));
-    let full = offered > size(s, 1);
-    let held = if full { size(s, 1) } else { offered };
-    let first = if full {
-        4usize.wrapping_add(h.n).wrapping_add(h.n)
+    let offered = size(words, 2).wrapping_add(size(answer, 0));
+    let most = size(words, 1);
+    let all = behind(words, 4);
+    let pairs = if offered > most {
+        behind(behind(all, shape.n), shape.n)
     } else {
-        4
+        all
     };
-    cases::is_float(s, at.wrapping_add(1), theta)
-        && cases::is_count(s, at.wrapping_add(2), h.pairs)
-        && held == h.pairs
-        && is_newest(area, h, s, at.wrapping_add(3))
-        && are_pairs(area, h, s, first)
+    cases::is_float(answer, 1, theta)
+        && cases::is_count(answer, 2, shape.pairs)
+        && offered.min(most) == shape.pairs
+        && is_newest(area, shape, behind(answer, 3))
+        && are_pairs(area, shape, pairs)
 }
 
-fn update_case(area: &mut [f64], h: Shape, theta: f64, s: &[u8], at: usize) -> bool
-    requires { Sound h (length area.old) }
+fn update_case(area: &mut [f64], shape: Shape, theta: f64, words: &[Word], answer: &[Word]) -> bool
+    requires { Sound shape (length area.old) }
 {
-    let updated = compact::update(area, h, theta);
-    is_updated(area, updated.shape, updated.theta, s, at)
+    let updated = compact::update(area, shape, theta);
+    is_updated(area, updated.shape, updated.theta, words, answer)
 }
 
 // ---- times: a model, v; whether there is a product, and its words
@@ -280,84 +279,79 @@ fn is_free(area: &[f64], n: usize, i: usize) -> bool
     area::get(area, n, area::LOWER, i) < x && x < area::get(area, n, area::UPPER, i)
 }
 
-// Whether the free coordinates are those that the words from at on show by 1.
-fn are_free(area: &[f64], n: usize, s: &[u8], at: usize) -> bool
+// Whether the free coordinates are those that the words show by 1.
+fn are_free(area: &[f64], n: usize, words: &[Word]) -> bool
     requires { first_pair * n ≤ length area.now }
 {
-    for i in 0..n {
-        if u64::from(is_free(area, n, i)) != word(s, at.wrapping_add(i)) {
-            return false;
-        }
-    }
-    true
+    (0..n).all(|i| u64::from(is_free(area, n, i)) == word(words, i))
 }
 
-// Whether the Cauchy point, where ok says that there is one, is the answer from word at on, with its free coordinates.
-fn is_cauchy(area: &[f64], n: usize, ok: bool, s: &[u8], at: usize) -> bool
+// Whether the Cauchy point, where there is one, is that of the words, with its free coordinates.
+fn is_cauchy(area: &[f64], n: usize, there: bool, words: &[Word]) -> bool
     requires { first_pair * n ≤ length area.now }
 {
-    is_flagged(area, n, area::CAUCHY, ok, s, at)
-        && (!ok || are_free(area, n, s, at.wrapping_add(1).wrapping_add(n)))
+    is_flagged(area, n, area::CAUCHY, there, words)
+        && (!there || are_free(area, n, behind(behind(words, 1), n)))
 }
 
-// The product of the pairs' model with v, or its Cauchy point and the target from there, compared with the answer from word at on.
-fn model_case(area: &mut [f64], h: Shape, theta: f64, kind: Kind, s: &[u8], at: usize) -> bool
-    requires { Sound h (length area.old) × (h.n ≤ 16) }
+// The product of the pairs' model with v, or its Cauchy point and the target from there, compared with the answer.
+fn model_case(area: &mut [f64], shape: Shape, theta: f64, kind: Kind, answer: &[Word]) -> bool
+    requires { Sound shape (length area.old) × (shape.n ≤ 16) }
 {
-    let mut model = Model::new(h, theta);
+    let mut model = Model::new(shape, theta);
     model.build(area);
     if kind == Kind::Times {
         let to = area::PRODUCT_D;
-        let ok = compact::product(area, &model, to, area::VELOCITY);
-        return is_flagged(area, h.n, to, ok, s, at);
+        let made = compact::product(area, &model, to, area::VELOCITY);
+        return is_flagged(area, shape.n, to, made, answer);
     }
     let reached = cauchy::generalized_cauchy(area, &model);
-    if !is_cauchy(area, h.n, reached, s, at) {
+    if !is_cauchy(area, shape.n, reached, answer) {
         return false;
     }
-    let target = at.wrapping_add(1).wrapping_add(h.n).wrapping_add(h.n);
+    let target = behind(answer, 1 + 2 * shape.n);
     if !reached {
-        return word(s, target) == 0;
+        return word(target, 0) == 0;
     }
-    let ok = subspace::primal_minimize(area, &model);
-    is_flagged(area, h.n, area::TARGET, ok, s, target)
+    let made = subspace::primal_minimize(area, &model);
+    is_flagged(area, shape.n, area::TARGET, made, target)
 }
 
 // ---- the cases in turn
 
 // Loads the model with the vectors behind it, and compares.
-fn loaded_case(area: &mut [f64], h: Shape, kind: Kind, s: &[u8]) -> bool
-    requires { Sound h (length area.old) × (h.n ≤ 16) }
+fn loaded_case(area: &mut [f64], shape: Shape, kind: Kind, words: &[Word]) -> bool
+    requires { Sound shape (length area.old) × (shape.n ≤ 16) }
 {
-    let first = load_pairs(area, h, s);
-    let at = load_inputs(area, h, kind, s, first);
-    let theta = cases::float(s, 3);
+    let inputs = load_pairs(area, shape, words);
+    let answer = load_inputs(area, shape, kind, inputs);
+    let theta = cases::float(words, 3);
     if kind == Kind::Update {
-        return update_case(area, h, theta, s, at);
+        return update_case(area, shape, theta, words, answer);
     }
-    model_case(area, h, theta, kind, s, at)
+    model_case(area, shape, theta, kind, answer)
 }
 
-fn is_equal(kind: Kind, s: &[u8]) -> bool {
+fn is_equal(kind: Kind, words: &[Word]) -> bool {
     if kind == Kind::Solve {
-        return solve_case(s);
+        return solve_case(words);
     }
     let mut area = [0.0f64; ROOM];
-    let h = shape(s);
-    fits(h, ROOM) && loaded_case(&mut area, h, kind, s)
+    let shape = shape(words);
+    fits(shape, ROOM) && loaded_case(&mut area, shape, kind, words)
 }
 
-// Counts the case of a number, with the words s, by the number of its kind. Where it differs, its number is written.
+// Counts the case of a number, with its words, by the number of its kind. Where it differs, its number is written.
 // Kept: a number, since the list has the kind as a word.
 fn judge<R: Print>(
     rt: &R,
     counts: &mut Counts,
     number: u64,
     kind: usize,
-    s: &[u8],
+    words: &[Word],
 ) -> io::Result<()> {
     if let Ok(kind) = Kind::try_from(kind) {
-        if is_equal(kind, s) {
+        if is_equal(kind, words) {
             counts.add(kind);
             return Ok(());
         }
@@ -373,27 +367,17 @@ fn one_case<R: Print, F: Read>(
     counts: &mut Counts,
     number: u64,
 ) -> io::Result<bool> {
-    let mut head = [0u8; 16];
-    if !cases::fetch(file, &mut head, 0, 2)? {
+    let mut head = [[0u8; 8]; 2];
+    if !cases::fetch(file, &mut head, 2)? {
         return Ok(false);
     }
-    let mut buf = [0u8; LARGEST];
-    if cases::fetch(file, &mut buf, 0, size(&head, 1))? {
-        judge(rt, counts, number, size(&head, 0), &buf)?;
+    let mut words = [[0u8; 8]; LARGEST];
+    if cases::fetch(file, &mut words, size(&head, 1))? {
+        judge(rt, counts, number, size(&head, 0), &words)?;
         return Ok(true);
     }
     println!(rt; "case {number} is cut")?;
     Ok(false)
-}
-
-// Every case of the file. Nothing says that a file ends, so the cases are counted up to the most.
-fn replay<R: Print, F: Read>(rt: &R, file: &mut F, counts: &mut Counts) -> io::Result<()> {
-    for number in 0..u64::MAX {
-        if !one_case(rt, file, counts, number)? {
-            return Ok(());
-        }
-    }
-    Ok(())
 }
 
 // How many of these two neighbours are right: from 1.0 up is 1 + 2^-52, and from 0 up is 2^-1074.
@@ -401,9 +385,9 @@ fn neighbours() -> u64 {
     u64::from(is_above(1.0, 0x3FF0_0000_0000_0001)) + u64::from(is_above(0.0, 1))
 }
 
-// Whether the float above x has the bits w.
-fn is_above(x: f64, w: u64) -> bool {
-    float::float_to_word(float::next_up(x)) == w
+// Whether the float above x is that of the word.
+fn is_above(x: f64, word: u64) -> bool {
+    float::float_to_word(float::next_up(x)) == word
 }
 
 fn main(rt: HostRuntime) -> io::Result<()> {
@@ -414,6 +398,6 @@ fn main(rt: HostRuntime) -> io::Result<()> {
         next_up: neighbours(),
         ..Counts::default()
     };
-    replay(&rt, &mut file, &mut counts)?;
+    cases::each_case(|number| one_case(&rt, &mut file, &mut counts, number))?;
     print!(rt; "{counts}")
 }

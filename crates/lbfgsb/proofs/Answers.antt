@@ -2,7 +2,7 @@
 use Prim.Native.Nat.{ℕ}
 use native.Mathlib.Omega.{arith}
 use mathlib.Core.Path.{◌≡◌, refl, sym, ap, ◌∙◌}
-use mathlib.Core.Bool.{true, false, false≢true, true≢false}
+use mathlib.Core.Bool.{true, true≢false}
 use mathlib.Core.List.{List, ◌++◌}
 use Rattle.std.specs.Prelude.{None, Some}
 use lib.ListN.{length, take, drop}
@@ -12,7 +12,7 @@ use Rattle.definition.specs.Problem.{Refusal, ◌then◌, validate}
 use Rattle.definition.specs.Machine as M
 use Rattle.definition.specs.Log.{entry_words}
 use Rattle.definition.specs.Book.{Book, opened_book, with_reply}
-use Rattle.definition.specs.Record.{check_area, plain_refusal}
+use Rattle.definition.specs.Record.{check_area}
 use Rattle.definition.specs.History as H
 use Rattle.definition.specs.History.{Call, History, history_step, history_answer, check_reply}
 use Rattle.fit.specs.declared.Fit.{Fit}
@@ -58,24 +58,10 @@ start_done s w w' e z l h = record {
 check_held_lem : (w : Words) (b : Book) (r : M.Reply) → Held w b → check_reply (lengths w) b r ≡ check_at w r
 check_held_lem w b r h = rw (← h.stands.is, ← h.stands.words) refl
 
-unheld_holds : (w : Words) (r : M.Reply) → is_held w.state w.area ≡ false → (h : History) → Holds w h → Holds w (history_step (lengths w) h (Call.reply r))
-unheld_holds w r e History.empty k = k
-unheld_holds w r e (History.fit b) k = absurd (false≢true (sym e ∙ k.stands.test))
-
-unheld_said : (w : Words) (r : M.Reply) → is_held w.state w.area ≡ false → (h : History) → Holds w h
-    → H.Answer.refused (plain_refusal 13) ≡ history_answer (lengths w) h (Call.reply r)
-unheld_said w r e History.empty k = refl
-unheld_said w r e (History.fit b) k = absurd (false≢true (sym e ∙ k.stands.test))
-
 replied_by :
     {r : M.Reply} {w w' : Words} {o : H.Answer} → Did (Call.reply r) w w' o → o ≡ reply_answer w r → Refuses o w w'
     → (o ≡ H.Answer.done → Moved r w w') → Replied r w w' o
 replied_by d e k m = record { did = d; always = e; refuses = k; moved = m }
-
-pub reply_unheld : (r : M.Reply) (w : Words) → is_held w.state w.area ≡ false → Replied r w w (H.Answer.refused (plain_refusal 13))
-reply_unheld r w e =
-    replied_by (record { sized = refl; holds = unheld_holds w r e; said = unheld_said w r e })
-    (rw e refl) (λ q p. refl) (λ p. absurd (unlike (plain_refusal 13) p))
 
 refused_holds : (w : Words) (r : M.Reply) (c : Refusal) → is_held w.state w.area ≡ true → check_at w r ≡ Some c
     → (h : History) → Holds w h → Holds w (history_step (lengths w) h (Call.reply r))

@@ -27,8 +27,7 @@ use Rattle.compact.specs.State.{pair_at, Sound}
 use Rattle.compact.specs.declared.Shape.{Shape}
 use Rattle.compact.proofs.Laws.{by_wrap}
 use Rattle.held.specs.Test.{mark_at}
-use Rattle.lbfgsb.specs.Words.{Words}
-use Rattle.lbfgsb.specs.Chain.{Unused, ScratchVector, Scratch, Agree}
+use Rattle.lbfgsb.specs.Chain.{Unused, ScratchVector, Scratch}
 
 -- ---- the ring
 
@@ -241,10 +240,3 @@ one_is (Ieee.fin s m x) p e =
     let k = down_pos x in
     let sign = positive_sign s a (omega (arith, value, k)) both.1 in
     whole_unique Ieee.binary64 (Ieee.fin s m x) one64 false 1 p tt (sign, value) (refl, refl)
-
--- so where the areas hold floats of binary64, as in a machine they do, the mark's words are equal too
-pub mark_same :
-    {w v : Words} → Agree w v → Binary64 (word w.area (mark_at w.state.shape)) → Binary64 (word v.area (mark_at v.state.shape))
-    → word w.area (mark_at w.state.shape) ≡ word v.area (mark_at v.state.shape)
-mark_same {w} {v} h p q =
-    one_is (word w.area (mark_at w.state.shape)) p h.mark.0 ∙ sym (one_is (word v.area (mark_at v.state.shape)) q h.mark.1)

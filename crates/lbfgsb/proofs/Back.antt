@@ -1,5 +1,5 @@
 -- Laws of taking back: at any words and at words that hold a history. Assumes nothing.
-use Prim.Native.Nat.{ℕ, ◌+◌, ◌-◌, ◌≤◌, ◌<◌}
+use Prim.Native.Nat.{ℕ, ◌+◌, ◌-◌, ◌≤◌}
 use native.Mathlib.Omega.{arith}
 use mathlib.Core.Path.{◌≡◌, refl, sym, ap, ap₂, ◌∙◌, subst}
 use mathlib.Core.Bool.{Bool, true, false, false≢true}
@@ -9,13 +9,12 @@ use lib.Dec.{ltb}
 use lib.ListN.{length, take, drop, replicate, length-append, length-drop, length-replicate}
 use lib.Seq.{take_at, take-take, length-take-le}
 use lib.Ieee.{Float}
-use borrow.Author.Tests.{lt-ltb, le-ltb}
+use borrow.Author.Tests.{le-ltb}
 use Rattle.definition.specs.Number.{zero64}
 use Rattle.definition.specs.Problem.{Setup, Refusal, Check, refuse, when, ◌then◌}
 use Rattle.definition.specs.Machine as M
 use Rattle.definition.specs.Log.{log_words, entries_kept}
 use Rattle.definition.specs.Book.{Book, book, struck}
-use Rattle.definition.specs.Record.{plain_refusal}
 use Rattle.definition.specs.History as H
 use Rattle.definition.specs.History.{Call, History, call_row, left_by, refused_by}
 use Rattle.problem.specs.Setups.{refusal_of}
@@ -68,43 +67,6 @@ back_refused w j r e = record {
 -- by the refusal that the code answers
 pub back_by : (w : Words) (j : ℕ) (c : Q.Refusal) (r : Refusal) → refusal_of c ≡ r → check_back w j ≡ Some r → TakenBack j w w (H.Answer.refused (refusal_of c))
 back_by w j c r e h = subst (λ (x : Refusal). TakenBack j w w (H.Answer.refused x)) (sym e) (back_refused w j r h)
-
-pub unheld_refused : (w : Words) (j : ℕ) → is_held w.state w.area ≡ false → 0 < j → check_back w j ≡ Some (plain_refusal 16)
-unheld_refused w j h l = check_empty w j h ∙ ap (λ (t : Bool). when t (refuse 16 0 0)) (lt-ltb 0 j l)
-
-pub many_refused : (w : Words) (j : ℕ) → is_held w.state w.area ≡ true → w.state.extra.entries < j → check_back w j ≡ Some (plain_refusal 16)
-many_refused w j h l =
-    check_held_lem w j h
-    ∙ ap (λ (t : Bool). when t (refuse 16 0 0) then when (ltb (length w.log) w.state.extra.words) (refuse 12 0 0))
-    (lt-ltb w.state.extra.entries j l)
-
-pub short_refused : (w : Words) (j : ℕ) → is_held w.state w.area ≡ true → j ≤ w.state.extra.entries → length w.log < w.state.extra.words
-    → check_back w j ≡ Some (plain_refusal 12)
-short_refused w j h l k =
-    check_held_lem w j h
-    ∙ ap₂ (λ (t u : Bool). when t (refuse 16 0 0) then when u (refuse 12 0 0)) (le-ltb w.state.extra.entries j l)
-    (lt-ltb (length w.log) w.state.extra.words k)
-
-pub unheld_kept : (w : Words) (j : ℕ) → is_held w.state w.area ≡ false → j ≡ 0 → TakenBack j w w H.Answer.done
-unheld_kept w j h e =
-    let passed : check_back w j ≡ None = check_empty w j h ∙ ap (λ (t : Bool). when t (refuse 16 0 0)) (le-ltb 0 j (omega arith)) in
-    record {
-      did = record {
-        sized = refl;
-        holds = λ g k. subst (λ (o : Check). Holds w (left_by o g (left_over w g j))) (sym (check_same w j g k ∙ passed)) (stays g k);
-        said = λ g k. says g k ∙ ap (λ (o : Check). refused_by o (call_row (lengths w) g (Call.take_back j)).answer) (sym (check_same w j g k ∙ passed));
-      };
-      always = rw (passed, h) refl;
-      back = subst (λ (o : Check). TakesBack j o w w) (sym passed) (rw h refl);
-    }
-  where
-    stays : (g : History) → Holds w g → Holds w (left_over w g j)
-    stays History.empty k = k
-    stays (History.fit b) k = absurd (false≢true (sym h ∙ k.stands.test))
-
-    says : (g : History) → Holds w g → H.Answer.done ≡ (call_row (lengths w) g (Call.take_back j)).answer
-    says History.empty k = refl
-    says (History.fit b) k = refl
 
 -- ---- words of a held fit
 
@@ -163,7 +125,9 @@ module _ (t : Fit) (a : List Float) (l : List ℕ) (j : ℕ) (test : is_held t a
       did = record {
         sized = sized;
         holds = λ g k. subst (λ (c : Check). Holds w (left_by c g (left_over was g j))) (sym (check_same was j g k ∙ passed)) (holds_left g k);
-        said = λ g k. says_done g k ∙ ap (λ (c : Check). refused_by c (call_row (lengths was) g (Call.take_back j)).answer) (sym (check_same was j g k ∙ passed));
+        said = λ g k.
+            says_done g k
+            ∙ ap (λ (c : Check). refused_by c (call_row (lengths was) g (Call.take_back j)).answer) (sym (check_same was j g k ∙ passed));
       };
       always = rw (passed, test) said;
       back = subst (λ (c : Check). TakesBack j c was w) (sym passed) (rw test h);

@@ -27,7 +27,8 @@ use Rattle.lbfgsb.proofs.Trace.{Called, did, after, every_allowed_list}
 
 -- ---- there is a report
 
-failed_last : (s : Setup) (rs : List Reply) → Accepted s → Due s rs → (run s rs).phase ≡ Phase.ended Termination.objective_failed → count_of is_failure rs ≡ 0 → ⊥
+failed_last : (s : Setup) (rs : List Reply) → Accepted s → Due s rs → (run s rs).phase ≡ Phase.ended Termination.objective_failed
+    → count_of is_failure rs ≡ 0 → ⊥
 unfolding run begin count_of
 failed_last s [] a d e n = let k : ◌≡◌ {A = ℕ} 1 0 = ap kind_of e in omega arith
 failed_last s (r ∷ rs) a d e n =

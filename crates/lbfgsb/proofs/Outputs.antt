@@ -35,12 +35,14 @@ first_written {out} {out'} k h =
     let same : first_of k out' ≡ take k out' = first_taken k out' (omega (arith, h.within, h.sized, first_long k out')) in
     subst (λ (v : List ℕ). Output v out out') (sym same) (some_written k (subst (λ (v : List ℕ). Written (length v) out out') same h))
 
-asked_written : (z : Result (Option Kind) Refusal) (n : ℕ) (out out' : List Float) → Written (taken (asked z n out')) out out' → Output (floats_of (asked z n out')) out out'
+asked_written : (z : Result (Option Kind) Refusal) (n : ℕ) (out out' : List Float) → Written (taken (asked z n out')) out out'
+    → Output (floats_of (asked z n out')) out out'
 asked_written (Ok None) n out out' h = none_written h
 asked_written (Ok (Some k)) n out out' h = some_written n h
 asked_written (Err c) n out out' h = none_written h
 
-told_written : (z : Result Outcome Refusal) (n : ℕ) (out out' : List Float) → Written (taken (told z n out')) out out' → Output (floats_of (told z n out')) out out'
+told_written : (z : Result Outcome Refusal) (n : ℕ) (out out' : List Float) → Written (taken (told z n out')) out out'
+    → Output (floats_of (told z n out')) out out'
 told_written (Ok o) n out out' h = some_written n h
 told_written (Err c) n out out' h = none_written h
 

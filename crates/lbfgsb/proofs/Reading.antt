@@ -27,13 +27,13 @@ use Rattle.question.specs.Reports.{point_asked, written, report_of}
 use Rattle.question.specs.declared.Outcome.{Outcome}
 use Rattle.record.specs.Records.{setup_size}
 use Rattle.held.specs.Test.{is_held}
-use Rattle.lbfgsb.specs.Words.{Words, words}
+use Rattle.lbfgsb.specs.Words.{words}
 use Rattle.lbfgsb.specs.Bridge.{first_of}
-use Rattle.lbfgsb.specs.Did.{Written, taken, Read, Counted}
-use Rattle.lbfgsb.specs.Table.{question_of, question_answer, report_answer, replies_answer}
+use Rattle.lbfgsb.specs.Did.{Written, taken, Read}
+use Rattle.lbfgsb.specs.Table.{question_of, question_answer, report_answer}
 use Rattle.lbfgsb.specs.Table.{entry_in, entry_kept, short_log, entry_answer, record_in, save_answer}
 use Rattle.lbfgsb.proofs.Firsts.{first_taken}
-use Rattle.lbfgsb.proofs.Said.{on, off, report_from, entry_from, save_from, question_said, report_said, replies_said, entry_said, save_said}
+use Rattle.lbfgsb.proofs.Said.{on, off, report_from, entry_from, save_from, question_said, report_said, entry_said, save_said}
 use Rattle.lookup.proofs.Saving.{vector_long, record_long}
 
 -- ---- an output slice
@@ -66,10 +66,6 @@ short : (room n : ℕ) (o : H.Answer) → room < n → refused_by (output_short 
 short room n o h = rw (lt-ltb room n h)
 
 -- ---- the open question
-
-pub none_asked : (o : Option Kind) {k : ℕ} → ((x : Kind) → o ≡ Some x → ⊥) → kind_number o ≡ k → k ≡ 0
-none_asked None h e = sym e
-none_asked (Some x) h e = absurd (h x refl)
 
 pub number_above : (x : Kind) → kind_number (Some x) ≡ 0 → ⊥
 number_above K.Value e = omega arith
@@ -168,11 +164,6 @@ module _ (t : Fit) (a : List Float) (l : List ℕ) (out : List Float) where
   reported : {o : H.Answer} {out' : List Float} → o ≡ report_answer (words t a l) (length out) → Written (taken o) out out' → Reported o out'
   reported e h = record { said = λ g k. e ∙ report_said (words t a l) (length out) g k; always = e; written = h }
 
-  pub report_unheld : (c : Refusal) → is_held t a ≡ false → refusal_of c ≡ plain_refusal 15 → Reported (H.Answer.refused (refusal_of c)) out
-  report_unheld c h e =
-      reported (ap H.Answer.refused e ∙ sym (off (is_held t a) (report_from (length out) t.shape.n (machine_of t a)) (H.Answer.refused (plain_refusal 15)) h))
-      (untouched out)
-
   report_held : {o : H.Answer} (b : Bool) → is_held t a ≡ true → M.unreported (phase_of t.phase) ≡ b
       → o ≡ refused_by (when b (refuse 15 0 0) then output_short (length out) t.shape.n) (H.Answer.reported (M.report_now (machine_of t a)))
       → o ≡ report_answer (words t a l) (length out)
@@ -181,10 +172,6 @@ module _ (t : Fit) (a : List Float) (l : List ℕ) (out : List Float) where
       ∙ ap (λ (b : Bool). refused_by (when b (refuse 15 0 0) then output_short (length out) t.shape.n) (H.Answer.reported (M.report_now (machine_of t a))))
       (sym u)
       ∙ sym (on (is_held t a) (report_from (length out) t.shape.n (machine_of t a)) (H.Answer.refused (plain_refusal 15)) h)
-
-  pub report_none : (c : Refusal) → is_held t a ≡ true → M.unreported (phase_of t.phase) ≡ true → refusal_of c ≡ plain_refusal 15
-      → Reported (H.Answer.refused (refusal_of c)) out
-  report_none c h u e = reported (report_held true h u (ap H.Answer.refused e)) (untouched out)
 
   pub report_short : (c : Refusal) → is_held t a ≡ true → M.unreported (phase_of t.phase) ≡ false → length out < t.shape.n
       → refusal_of c ≡ record { number = 19; first = t.shape.n; second = 0 } → Reported (H.Answer.refused (refusal_of c)) out
@@ -210,15 +197,6 @@ module _ (t : Fit) (a : List Float) (l : List ℕ) (out : List Float) where
 
 -- ---- how many replies
 
-counted_by : (k : ℕ) (w : Words) → H.Answer.counted k ≡ replies_answer w → Counted k w
-counted_by k w e = record { said = λ h g. e ∙ replies_said w h g; always = e }
-
-pub counted_held : (t : Fit) (a : List Float) (l : List ℕ) → is_held t a ≡ true → Counted t.extra.entries (words t a l)
-counted_held t a l h = counted_by t.extra.entries (words t a l) (sym (on (is_held t a) (H.Answer.counted t.extra.entries) (H.Answer.counted 0) h))
-
-pub counted_unheld : (t : Fit) (a : List Float) (l : List ℕ) → is_held t a ≡ false → Counted 0 (words t a l)
-counted_unheld t a l h = counted_by 0 (words t a l) (sym (off (is_held t a) (H.Answer.counted t.extra.entries) (H.Answer.counted 0) h))
-
 -- ---- an entry
 
 module _ (t : Fit) (a : List Float) (l : List ℕ) (k : ℕ) (out : List ℕ) where
@@ -228,18 +206,6 @@ module _ (t : Fit) (a : List Float) (l : List ℕ) (k : ℕ) (out : List ℕ) wh
   entered_by : {o : H.Answer} {out' : List ℕ} → o ≡ entry_answer (words t a l) k (length out) → Written (taken o) out out' → Entered o out'
   entered_by e h = record { said = λ g i. e ∙ entry_said (words t a l) k (length out) g i; always = e; written = h }
 
-  pub entry_unheld : is_held t a ≡ false → Entered (H.Answer.entered []) out
-  entry_unheld h =
-      entered_by (sym (off (is_held t a) (entry_from (short_log (words t a l)) (length out) (entry_kept (words t a l) k)) (H.Answer.entered []) h)) (untouched out)
-
-  pub entry_cut : (c : Refusal) → is_held t a ≡ true → length l < t.extra.words → refusal_of c ≡ plain_refusal 12 → Entered (H.Answer.refused (refusal_of c)) out
-  entry_cut c h s e =
-      entered_by
-      (ap H.Answer.refused e
-      ∙ sym (ap (λ (b : Bool). entry_from (when b (refuse 12 0 0)) (length out) (entry_kept (words t a l) k)) (lt-ltb (length l) t.extra.words s))
-      ∙ sym (on (is_held t a) (entry_from (short_log (words t a l)) (length out) (entry_kept (words t a l) k)) (H.Answer.entered []) h))
-      (untouched out)
-
   -- the log is long enough, and the entry's words are ws
   entry_held : {o : H.Answer} (ws : List ℕ) → is_held t a ≡ true → t.extra.words ≤ length l → entry_kept (words t a l) k ≡ ws
       → o ≡ refused_by (output_short (length out) (length ws)) (H.Answer.entered ws) → o ≡ entry_answer (words t a l) k (length out)
@@ -247,11 +213,6 @@ module _ (t : Fit) (a : List Float) (l : List ℕ) (k : ℕ) (out : List ℕ) wh
       e
       ∙ ap₂ (λ (b : Bool) (ws : List ℕ). entry_from (when b (refuse 12 0 0)) (length out) ws) (sym (le-ltb (length l) t.extra.words r)) (sym w)
       ∙ sym (on (is_held t a) (entry_from (short_log (words t a l)) (length out) (entry_kept (words t a l) k)) (H.Answer.entered []) h)
-
-  pub entry_absent : is_held t a ≡ true → t.extra.words ≤ length l → t.extra.entries ≤ k → Entered (H.Answer.entered []) out
-  entry_absent h r s =
-      let none_kept : entry_kept (words t a l) k ≡ [] = rw (le-ltb k t.extra.entries s) in
-      entered_by (entry_held [] h r none_kept (sym (fits (length out) 0 (H.Answer.entered []) (omega arith)))) (untouched out)
 
   -- the words of entry k, which is there
   entry_found : k < t.extra.entries → entry_kept (words t a l) k ≡ entry_in t.shape.n k (take t.extra.words l)
@@ -287,9 +248,6 @@ module _ (t : Fit) (a : List Float) (l : List ℕ) (out : List ℕ) where
   saved_by : {o : H.Answer} {out' : List ℕ} → o ≡ save_answer (words t a l) (length out) → Written (taken o) out out' → Saved o out'
   saved_by e h = record { said = λ g i. e ∙ save_said (words t a l) (length out) g i; always = e; written = h }
 
-  pub save_unheld : is_held t a ≡ false → Saved (H.Answer.saved []) out
-  save_unheld h = saved_by (sym (off (is_held t a) (save_from (short_log (words t a l)) (length out) (length whole) whole) (H.Answer.saved []) h)) (untouched out)
-
   save_held : {o : H.Answer} (b : Bool) → is_held t a ≡ true → ltb (length l) t.extra.words ≡ b
       → o ≡ save_from (when b (refuse 12 0 0)) (length out) (length whole) whole
       → o ≡ save_answer (words t a l) (length out)
@@ -297,9 +255,6 @@ module _ (t : Fit) (a : List Float) (l : List ℕ) (out : List ℕ) where
       e
       ∙ ap (λ (b : Bool). save_from (when b (refuse 12 0 0)) (length out) (length whole) whole) (sym s)
       ∙ sym (on (is_held t a) (save_from (short_log (words t a l)) (length out) (length whole) whole) (H.Answer.saved []) h)
-
-  pub save_cut : (c : Refusal) → is_held t a ≡ true → length l < t.extra.words → refusal_of c ≡ plain_refusal 12 → Saved (H.Answer.refused (refusal_of c)) out
-  save_cut c h s e = saved_by (save_held true h (lt-ltb (length l) t.extra.words s) (ap H.Answer.refused e)) (untouched out)
 
   pub save_short : (c : Refusal) (size : ℕ) → is_held t a ≡ true → t.extra.words ≤ length l → size ≡ setup_size t.options.bounded t.shape.n
       → length out < 8 * (size + t.extra.words + 4) → refusal_of c ≡ record { number = 19; first = 8 * (size + t.extra.words + 4); second = 0 }

@@ -1,5 +1,5 @@
 -- Laws of restoring a record: refused ahead of its entries, refused at one, or read in whole. Assumes nothing.
-use Prim.Native.Nat.{ℕ, ◌+◌, ◌-◌, ◌*◌}
+use Prim.Native.Nat.{ℕ, ◌/◌}
 use native.Mathlib.Omega.{arith}
 use mathlib.Core.Path.{◌≡◌, refl, sym, ap, ap₂, ◌∙◌, subst}
 use mathlib.Core.Logic.{◌⊎◌, inl, inr, ⊎_elim}
@@ -22,14 +22,14 @@ use Rattle.problem.specs.declared.Refusal.TheVariants.{LogShort, Malformed}
 use Rattle.fit.specs.declared.Fit.{Fit}
 use Rattle.held.proofs.Test.{zeroed_unheld}
 use Rattle.record.specs.declared.Frame.{Frame}
-use Rattle.record.specs.Records.{Opens}
+use Rattle.record.specs.Records.{entry_bytes, Opens}
 use Rattle.replay.specs.Replays.{ReplayedTo}
 use Rattle.lbfgsb.specs.Words.{Words, words, lengths, Holds}
 use Rattle.lbfgsb.specs.Bridge.{next, kept}
 use Rattle.lbfgsb.specs.Did.{Restores, Restored}
 use Rattle.rebuild.specs.Built.{headed, Built, Unbuilt, Builds, Reloads}
 use Rattle.held.proofs.Laws.{reached_held}
-use Rattle.rebuild.proofs.Recorded.{setup, entries, entries_long, reading}
+use Rattle.rebuild.proofs.Recorded.{setup, entries, reading}
 use Rattle.definition.proofs.Entries.{entries_most}
 use Rattle.rebuild.proofs.Reread.{refused_read, replayed_all, replayed_read}
 
@@ -55,11 +55,6 @@ restores bs w w' o d e z a r =
       restores = subst (λ (x : Reading). Restores x w w') (sym e) r;
     }
 
--- refused ahead of the entries: every word stays
-pub restore_refused : (bs : List ℕ) (w : Words) (c : Refusal) → read_record (lengths w) bs ≡ Reading.refused (refusal_of c)
-    → Restored bs w w (H.Answer.refused (refusal_of c))
-restore_refused bs w c e = restores bs w w (H.Answer.refused (refusal_of c)) (Reading.refused (refusal_of c)) e refl refl refl
-
 -- the refusals of an entry have no details
 plain : {A : Type 0} (c : Refusal) → (c ≡ Malformed) ⊎ ((c ≡ LogShort) × A) → refusal_of c ≡ plain_refusal (refusal_of c).number
 plain c (inl e) = rw e refl
@@ -67,7 +62,7 @@ plain c (inr e) = rw e.0 refl
 
 module _ (bs : List ℕ) (g : Fit) (a : List Float) (l : List ℕ) (o : Options) (f : Frame) (h : Opens bs (length a) o f) where
   abbrev limit : ℕ
-  limit = f.words - f.setup
+  limit = length (entries bs (length a) o f h)
 
   module _ (t : Fit) (b : List Float) (k : Built (setup bs (length a) o f h) (entries bs (length a) o f h) limit (length l) a t b) where
     replayed : ReplayedTo (setup bs (length a) o f h) (entries bs (length a) o f h) (length l) t b
@@ -76,13 +71,14 @@ module _ (bs : List ℕ) (g : Fit) (a : List Float) (l : List ℕ) (o : Options)
     all_words : t.extra.words ≡ length (entries bs (length a) o f h)
     all_words =
         ⊎_elim (λ e. e)
-        (λ e. omega (arith, e, k.words, replayed.entries, replayed.words, entries_most replayed.replies, entries_long bs (length a) o f h)) k.stopped
+        (λ e. omega (arith, e, k.words, replayed.entries, replayed.words, entries_most replayed.replies)) k.stopped
 
     abbrev copy : List ℕ
-    copy = words_of t.extra.words (drop (f.at + 8 * f.setup) bs)
+    copy = words_of t.extra.words (entry_bytes f)
 
     copied : copy ≡ entries bs (length a) o f h
-    copied = ap (λ (i : ℕ). words_of i (drop (f.at + 8 * f.setup) bs)) (all_words ∙ entries_long bs (length a) o f h)
+    copied =
+        ap (λ (i : ℕ). words_of i (entry_bytes f)) (all_words ∙ words_of-length (length (entry_bytes f) / 8) (entry_bytes f))
 
     logged : copy ≡ log_words replayed.replies
     logged = copied ∙ sym (replayed_all replayed all_words)
@@ -91,7 +87,7 @@ module _ (bs : List ℕ) (g : Fit) (a : List Float) (l : List ℕ) (o : Options)
     now_log = headed copy l
 
     copied_long : length copy ≡ t.extra.words
-    copied_long = words_of-length t.extra.words (drop (f.at + 8 * f.setup) bs)
+    copied_long = words_of-length t.extra.words (entry_bytes f)
 
     headed_long : length now_log ≡ length l
     headed_long =
@@ -130,7 +126,7 @@ module _ (bs : List ℕ) (g : Fit) (a : List Float) (l : List ℕ) (o : Options)
         restores bs (words g a l) (words g b l) (H.Answer.refused (refusal_of c)) (Reading.refused_at_entry (plain_refusal number))
         (reading bs (length a) o f h (length l)
         ∙ ap (reading_of (setup bs (length a) o f h))
-        (refused_read (setup bs (length a) o f h) (entries bs (length a) o f h) limit (length l) number (omega (arith, entries_long bs (length a) o f h))
+        (refused_read (setup bs (length a) o f h) (entries bs (length a) o f h) limit (length l) number (omega arith)
         (k.is (inl h.accepted))))
         (ap (λ (x : ℕ). record { area = x; log = length l }) (ap length k.area ∙ length-replicate (length a) zero64))
         (ap H.Answer.refused (plain c k.which))
@@ -139,7 +135,7 @@ module _ (bs : List ℕ) (g : Fit) (a : List Float) (l : List ℕ) (o : Options)
   -- ---- by what is built
 
   pub built_restored : (q : Result Fit Refusal) (b : List Float) (m : List ℕ)
-      → Builds (setup bs (length a) o f h) (entries bs (length a) o f h) limit (length l) a q b → Reloads q bs f l m
+      → Builds (setup bs (length a) o f h) (entries bs (length a) o f h) limit (length l) a q b → Reloads q f l m
       → Restored bs (words g a l) (words (next g q) b m) (kept q)
   built_restored (Ok t) b m k z = subst (λ (x : List ℕ). Restored bs (words g a l) (words t b x) H.Answer.done) (sym z) (restore_kept t b k)
   built_restored (Err c) b m k z =

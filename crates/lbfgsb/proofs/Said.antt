@@ -16,7 +16,8 @@ use Rattle.definition.proofs.Counts.{terms_stay}
 use Rattle.definition.proofs.Lengths.{record_bytes_lem}
 use Rattle.held.specs.Test.{is_held}
 use Rattle.lbfgsb.specs.Words.{Words, lengths, machine_in, log_in, Held, Holds}
-use Rattle.lbfgsb.specs.Table.{question_of, question_answer, report_answer, replies_answer, entry_in, entry_kept, short_log, entry_answer, record_in, save_answer}
+use Rattle.lbfgsb.specs.Table.{question_of, question_answer, report_answer, replies_answer, entry_in, entry_kept, short_log, entry_answer, record_in}
+use Rattle.lbfgsb.specs.Table.{save_answer}
 use Rattle.lookup.proofs.Entries.{entry_read}
 
 -- ---- tests, and what is held

@@ -63,7 +63,8 @@ report_numbered room w =
     let absent = unreported (machine_in w).phase in
     let n = w.state.shape.n in
     by_test (AnswerNumbered (refusals_of (Call.report room))) (is_held w.state w.area)
-    (λ _. answered {numbers = refusals_of (Call.report room)} _ _ (both (when absent (refuse 15 0 0)) (output_short room n) (tested absent 15 0 0 refl) (short room n refl)) tt)
+    (λ _. answered {numbers = refusals_of (Call.report room)} _ _
+    (both (when absent (refuse 15 0 0)) (output_short room n) (tested absent 15 0 0 refl) (short room n refl)) tt)
     (λ _. refl)
 
 -- a read of the log, which needs so many elements of its output

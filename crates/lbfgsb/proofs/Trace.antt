@@ -120,7 +120,8 @@ pub data Called : Call → Words → Words → Answer → Type 0 where
       → Called (Call.question (length a.1.1.0.now))
       (words a.0 a.1.0.now log) (words a.0 a.1.0.now log) (asked z a.0.shape.n e.1.1.0.now)
   by_report :
-      (κs : Lfts 2) (a : Dens κs report-kinds.ps) (z : (res_t report-kinds.r κs).Denot) (e : AtExit (ended_of 2 report-kinds.ps report-kinds.r) κs) (log : List ℕ)
+      (κs : Lfts 2) (a : Dens κs report-kinds.ps) (z : (res_t report-kinds.r κs).Denot)
+      (e : AtExit (ended_of 2 report-kinds.ps report-kinds.r) κs) (log : List ℕ)
       → report-reads.Learnt κs a z e
       → Called (Call.report (length a.1.1.0.now))
       (words a.0 a.1.0.now log) (words a.0 a.1.0.now log) (told z a.0.shape.n e.1.1.0.now)

@@ -42,7 +42,8 @@ module _ (t : Fit) (a b : List Float) (l m : List ℕ) {k : Book} (h : Stands (w
         due = h.due;
         test = is_held_lem t b (subst (λ (k : ℕ). is_ready t k ≡ true) long (held_ready t a h.test)) mark;
         setup =
-            setup_same t.options va vb (sym (used.low vector_x0 (omega arith))) (sym (used.low vector_lower (omega arith))) (sym (used.low vector_upper (omega arith)))
+            setup_same t.options va vb (sym (used.low vector_x0 (omega arith))) (sym (used.low vector_lower (omega arith)))
+            (sym (used.low vector_upper (omega arith)))
             ∙ h.setup;
         is = same t va vb (pairs_in_use t.shape va vb used.pairs) (λ q k. sym (used.low q k)) ∙ h.is;
         settled = h.settled;

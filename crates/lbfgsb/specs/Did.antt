@@ -1,5 +1,6 @@
 -- What each exported operation does: with any words at all, and with words that hold a history. One record is one operation's contract.
--- At any words the answer is the table's (`answer_at`, specs/Table.antt), and the words after are said; docs/PROOFS.md has the theorem that rests on each field.
+-- At any words the answer is the table's (`answer_at`, specs/Table.antt), and the words after are said;
+-- docs/PROOFS.md has the theorem that rests on each field.
 use Rattle.std.specs.Prelude.{ℕ, ◌+◌, ◌-◌, ◌≤◌, ◌≡◌, cond, List, ◌++◌, length, take, drop, replicate}
 use Rattle.std.specs.Prelude.{Option, None, Some}
 use Rattle.definition.specs.Problem as P

@@ -73,7 +73,8 @@ abbrev pub entry_kept : Words → ℕ → List ℕ
 entry_kept w k = cond (ltb k w.state.extra.entries) (entry_in w.state.shape.n k (log_in w)) []
 
 abbrev pub entry_answer : Words → ℕ → ℕ → Answer
-entry_answer w k room = by_held w (refused_by (short_log w then output_short room (length (entry_kept w k))) (Answer.entered (entry_kept w k))) (Answer.entered [])
+entry_answer w k room =
+    by_held w (refused_by (short_log w then output_short room (length (entry_kept w k))) (Answer.entered (entry_kept w k))) (Answer.entered [])
 
 abbrev pub save_answer : Words → ℕ → Answer
 save_answer w room = by_held w (refused_by (short_log w then output_short room (length (record_in w))) (Answer.saved (record_in w))) (Answer.saved [])

@@ -25,7 +25,7 @@ pub fn start(fit: Fit, area: &mut [f64], setup: Setup) -> Result<Fit, Refusal>
     ensures { (l : List ℕ)
         → Started (setup_of setup.entry) (words fit area.old l) (words (next fit result) area.new l) (kept result) }
 {
-    accept::check_start(setup, area.len())?;
+    record::check_start(setup, area.len())?;
     Ok(accept::opened(setup, area))
 }
 
@@ -70,8 +70,7 @@ pub fn take_back(fit: Fit, area: &mut [f64], log: &mut [u64], j: usize) -> Resul
     if log.len() < fit.extra.words {
         return Err(Refusal::LogShort);
     }
-    let left = fit.extra.entries - j;
-    rebuild::shorten(fit, area, log, left)
+    rebuild::shorten(fit, area, log, fit.extra.entries - j)
 }
 
 // Document 01's reading in: the fit of a record, in place of what the words held; the record's entries are copied into the log.
@@ -81,7 +80,7 @@ pub fn restore(fit: Fit, area: &mut [f64], log: &mut [u64], input: &[u8]) -> Res
         (kept result) }
 {
     let parsed = record::check(input, area.len())?;
-    rebuild::reload(area, log, input, parsed)
+    rebuild::reload(area, log, parsed)
 }
 
 // ---- reading
@@ -153,14 +152,11 @@ pub fn entry(
     if !held::is_held(fit, area) {
         return Ok(0);
     }
-    let words = fit.extra.words;
-    if log.len() < words {
-        return Err(Refusal::LogShort);
-    }
+    let words = log.get(..fit.extra.words).ok_or(Refusal::LogShort)?;
     if fit.extra.entries <= k {
         return Ok(0);
     }
-    let found = lookup::entry(&log[..words], fit.shape.n, k);
+    let found = lookup::entry(words, fit.shape.n, k);
     if out.len() < found.len() {
         return Err(Refusal::OutputShort {
             needed: found.len(),
@@ -183,7 +179,7 @@ pub fn save(fit: Fit, area: &[f64], log: &[u64], out: &mut [u8]) -> Result<usize
     if log.len() < words {
         return Err(Refusal::LogShort);
     }
-    let needed = 8 * (record::setup_words(fit.options, fit.shape.n) + words + 4);
+    let needed = 8 * (record::setup_words(fit.options.bounded, fit.shape.n) + words + 4);
     if out.len() < needed {
         return Err(Refusal::OutputShort { needed });
     }

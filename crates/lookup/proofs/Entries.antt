@@ -104,7 +104,8 @@ module _ (s : Setup) where
   unfolding log_words
   log_entry [] k rest d h = absurd (omega arith)
   log_entry (r ∷ rs) k rest d h =
-      ap (entry_in (dimension s) k) (append_assoc (log_words rs) (entry_words r) rest) ∙ go (log_entry rs k (entry_words r ++ rest) d.1) (ltb k (length rs)) refl
+      ap (entry_in (dimension s) k) (append_assoc (log_words rs) (entry_words r) rest)
+      ∙ go (log_entry rs k (entry_words r ++ rest) d.1) (ltb k (length rs)) refl
     where
       go : (k < length rs → entry_in (dimension s) k (log_words rs ++ (entry_words r ++ rest)) ≡ entry_words (get_or rs (length rs - (k + 1)) Reply.failure))
           → (t : Bool) → ltb k (length rs) ≡ t

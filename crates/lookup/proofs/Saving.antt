@@ -91,11 +91,14 @@ module _ (t : Fit) (a : List Float) (l : List ℕ) where
       let log : length (take t.extra.words l) ≡ t.extra.words = length-take-le t.extra.words l r in
       (parts, rw (long, log) f)
 
-  pub record_put : (out out' : List ℕ) → let n = t.shape.n in
-      out' ≡ overwritten (bytes (saved_record (setup_in t.options (lent n a vector_x0) (lent n a vector_lower) (lent n a vector_upper)) (take t.extra.words l))) out
+  abbrev lent_setup : P.Setup
+  lent_setup =
+      setup_in t.options (lent t.shape.n a vector_x0) (lent t.shape.n a vector_lower) (lent t.shape.n a vector_upper)
+
+  pub record_put : (out out' : List ℕ) → out' ≡ overwritten (bytes (saved_record lent_setup (take t.extra.words l))) out
       → out' ≡ written (record_in (words t a l)) out
   record_put out out' e =
       let n = t.shape.n in
-      let is : bytes (saved_record (setup_in t.options (lent n a vector_x0) (lent n a vector_lower) (lent n a vector_upper)) (take t.extra.words l)) ≡ record_in (words t a l)
+      let is : bytes (saved_record lent_setup (take t.extra.words l)) ≡ record_in (words t a l)
       = rw (part_lent a vector_x0 n, part_lent a vector_lower n, part_lent a vector_upper n) in
       e ∙ ap (λ (bs : List ℕ). written bs out) is

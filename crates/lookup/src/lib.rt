@@ -33,7 +33,7 @@ pub fn entry(words: &[u64], n: usize, k: usize) -> &[u64]
     ensures { result.now ≡ entry_in n k words.now }
 {
     let mut rest = words;
-    for i in 0..k {
+    for _ in 0..k {
         let front = front_entry(rest, n);
         if front.is_empty() {
             return front;

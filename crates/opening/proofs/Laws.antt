@@ -9,21 +9,21 @@ use lib.Ieee.{Float}
 use Rattle.definition.specs.Number.{zero64}
 use Rattle.definition.specs.Problem.{Setup, projected_start}
 use Rattle.definition.specs.Driver as D
-use Rattle.area.specs.Area.{Vecs, view, upd, copy_of, fill_of, rowwise, first_pair, FreeKept, Saved, vector_x, vector_g, vector_lower, vector_upper, vector_x0, vector_trial, vector_trial_gradient, vector_direction}
-use Rattle.area.proofs.Laws.{room, length-view, upd_other, saved_refl, saved_upd}
+use Rattle.area.specs.Area.{Vecs, view, upd, copy_of, fill_of, rowwise, first_pair, Saved}
+use Rattle.area.specs.Area.{vector_x, vector_g, vector_lower, vector_upper, vector_x0, vector_trial, vector_trial_gradient, vector_direction}
+use Rattle.area.proofs.Laws.{room, length-view, saved_refl, saved_upd}
 use Rattle.compact.specs.declared.Shape.{Shape}
 use Rattle.compact.specs.State.{Sound}
 use Rattle.problem.specs.declared.Options.{Options}
-use Rattle.problem.specs.Setups.{setup_in}
 use Rattle.fit.specs.declared.Fit.{Fit}
 use Rattle.fit.specs.State.{machine}
-use Rattle.opening.specs.Opened.{setup_at, Room, boxed, clipped, first_vectors, first_shape, first_machine, First, Stored, Opened}
+use Rattle.opening.specs.Opened.{setup_at, Room, boxed, clipped, first_vectors, first_shape, first_machine, First, Opened}
 
 -- ---- vectors
 
 pub first_made : (n : ℕ) (v : Vecs) {w₁ w₂ w₃ w₄ w₅ : Vecs}
-    → w₁ ≡ upd v vector_x (clipped n v) → w₂ ≡ copy_of vector_trial vector_x w₁ → w₃ ≡ fill_of n vector_g zero64 w₂ → w₄ ≡ fill_of n vector_trial_gradient zero64 w₃
-    → w₅ ≡ fill_of n vector_direction zero64 w₄
+    → w₁ ≡ upd v vector_x (clipped n v) → w₂ ≡ copy_of vector_trial vector_x w₁ → w₃ ≡ fill_of n vector_g zero64 w₂
+    → w₄ ≡ fill_of n vector_trial_gradient zero64 w₃ → w₅ ≡ fill_of n vector_direction zero64 w₄
     → w₅ ≡ first_vectors n v
 unfolding fill_of rowwise
 first_made n v a b c d e = rw (e, d, c, b, a)
@@ -58,22 +58,6 @@ setup_stays o n v = at o.bounded refl
     at true e = rw e
     at false e = rw e
 
--- a setup that is stored is the one that is read
-pub stored_box : {b : Bool} {x0 l u : List Float} (v : Vecs) {w₁ w₂ w₃ : Vecs}
-    → w₁ ≡ upd v vector_x0 x0 → w₂ ≡ upd w₁ vector_lower l → w₃ ≡ upd w₂ vector_upper u → Stored b x0 l u v w₃
-stored_box {x0 = x0} {l = l} {u = u} v e f g =
-    let start = upd v vector_x0 x0 in
-    let low = upd start vector_lower l in
-    let free : FreeKept v (upd low vector_upper u)
-    = λ q k m. upd_other low vector_upper q u (λ e. omega arith) ∙ upd_other start vector_lower q l (λ e. omega arith) ∙ upd_other v vector_x0 q x0 (λ e. omega arith) in
-    rw (g, f, e) (record { start = refl; bounds = refl; free = free })
-
-pub stored_start : {b : Bool} {x0 l u : List Float} (v : Vecs) {w : Vecs} → w ≡ upd v vector_x0 x0 → b ≡ false → Stored b x0 l u v w
-stored_start {x0 = x0} v e d = rw (d, e) (record { start = refl; bounds = refl; free = λ q k m. upd_other v vector_x0 q x0 (λ e. omega arith) })
-
-pub stored_setup : (o : Options) {x0 l u : List Float} {a v : Vecs} → Stored o.bounded x0 l u a v → setup_at o v ≡ setup_in o x0 l u
-stored_setup o h = rw (h.start, h.bounds)
-
 -- ---- the opening
 
 pub first_room : {o : Options} {n size : ℕ} → Room o n size → first_pair * n ≤ size
@@ -104,21 +88,4 @@ opened {o} {n} {s} {a} {r} {b} w h f l e q k g = record {
       ∙ f.is (view b n)
       ∙ ap (first_machine o n) e
       ∙ g;
-}
-
--- the same, of a setup that is equal, in an area as long that has the same free vectors
-pub opened_as : {o : Options} {n : ℕ} {s t : Setup} {a d : List Float} {r : Fit} {b : List Float}
-    → Opened o n s d r b → s ≡ t → length d ≡ length a → FreeKept (view a n) (view d n) → Opened o n t a r b
-opened_as h e l k = record {
-  options = h.options;
-  entries = h.entries;
-  words = h.words;
-  n = h.n;
-  m = h.m;
-  long = h.long ∙ l;
-  sound = h.sound;
-  settled = h.settled;
-  setup = h.setup ∙ e;
-  free = λ q g m. h.free q g m ∙ k q g m;
-  is = h.is ∙ ap D.begin e;
 }

@@ -7,7 +7,8 @@ use Rattle.definition.specs.Compact.{no_pairs}
 use Rattle.definition.specs.Counters.{first_counters}
 use Rattle.definition.specs.Machine as M
 use Rattle.definition.specs.Driver as D
-use Rattle.area.specs.Area.{Vecs, view, upd, vectors, FreeKept, vector_x, vector_g, vector_lower, vector_upper, vector_x0, vector_trial, vector_trial_gradient, vector_direction}
+use Rattle.area.specs.Area.{Vecs, view, upd, vectors, FreeKept}
+use Rattle.area.specs.Area.{vector_x, vector_g, vector_lower, vector_upper, vector_x0, vector_trial, vector_trial_gradient, vector_direction}
 use Rattle.problem.specs.declared.Options.{Options}
 use Rattle.problem.specs.Setups.{setup_in, bounds_in, places_in, limits_in, scheme_of, box_of}
 use Rattle.compact.specs.declared.Shape.{Shape}
@@ -51,7 +52,8 @@ pub record Stored (bounded : Bool) (x0 lower upper : List Float) (a v : Vecs) : 
 -- every vector that is read before it is next written
 abbrev pub first_vectors : ℕ → Vecs → Vecs
 first_vectors n v =
-    upd (upd (upd (upd (upd v vector_x (clipped n v)) vector_trial (clipped n v)) vector_g (zeros n)) vector_trial_gradient (zeros n)) vector_direction (zeros n)
+    upd (upd (upd (upd (upd v vector_x (clipped n v)) vector_trial (clipped n v)) vector_g (zeros n)) vector_trial_gradient (zeros n))
+    vector_direction (zeros n)
 
 -- ---- the state at the first question
 

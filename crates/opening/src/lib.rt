@@ -23,19 +23,17 @@ fn open_box(area: &mut [f64], n: usize, bounded: bool)
     }
 }
 
-// Kept: the four vectors stand in one slice, which iterators would first have to split.
 // The start brought into the box.
-#[tactic(auto, using(area::proofs::Laws::row_none, area::proofs::Laws::row_done), unfolding(area::specs::Area::rowwise))]
 fn clip_start(area: &mut [f64], n: usize)
     requires { first_pair * n ≤ length area.old }
     ensures { let before = view area.old n in view area.new n ≡ upd before vector_x (clipped n before) }
 {
-    for i in 0..n {
+    area::set_each(area, n, area::X, |area, i| {
         let x0 = area[area::X0 * n + i];
         let low = area[area::LOWER * n + i];
         let high = area[area::UPPER * n + i];
-        area[area::X * n + i] = float::clamp(x0, low, high);
-    }
+        float::clamp(x0, low, high)
+    });
 }
 
 // Every vector that is read before it is next written.
@@ -72,10 +70,7 @@ fn first_fit(options: Options, n: usize) -> Fit
         right_value: 0.0,
         value_before: 0.0,
         theta: 1.0,
-        extra: Extra {
-            entries: 0,
-            words: 0,
-        },
+        extra: Extra::default(),
     }
 }
 

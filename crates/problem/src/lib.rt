@@ -2,15 +2,13 @@
 #![tactic(auto)]
 
 ghost use Rattle.std.specs.Prelude.{◌≡◌, ◌<◌, ◌||◌, Some, List, length, Float};
-ghost use Rattle.std.specs.Float.Ieee.{eq};
+ghost use Rattle.std.specs.Float.Ieee.{eq, lt};
 ghost use Rattle.definition.specs.Number.{infinity, neg_infinity};
-ghost use Rattle.definition.specs.Problem.{when, given, check_side, check_pair, check_bounds, positive as positive_of};
+ghost use Rattle.definition.specs.Problem.{when, refuse, ◌then◌, given, check_side, check_bounds, positive as positive_of};
 ghost use Rattle.definition.specs.Problem.{finite_positive, finite_nonnegative, at_most};
 ghost use Rattle.definition.specs.Problem.{check_problem, check_common, check_options, check_limits, validate as validate_of};
 ghost use Rattle.problem.specs.Setups.{count_detail, positive_detail, nonnegative_detail, limited_detail, refusal_of, check_of};
 ghost use Rattle.problem.specs.Setups.{box_of, setup_in, setup_of, each_finite, each_number, each_pair, no_options, limits_of, limits_in, places_in};
-
-use std::fmt;
 
 // What applies where a setup does not say, as in the Rust.
 const DEFAULT_BUDGET: usize = 15_000;
@@ -57,7 +55,7 @@ pub struct Setup<'a> {
 }
 
 // The limits in force.
-#[derive(Clone, Copy)]
+#[derive(Clone, Copy, Default)]
 pub struct Limits {
     pub ftol: f64,
     pub gtol: f64,
@@ -65,35 +63,35 @@ pub struct Limits {
     pub maxfev: usize,
 }
 
-// The counts that must be positive.
+// The counts that must be positive, each with the detail that its refusal has.
 #[derive(Clone, Copy, Debug, PartialEq, Eq)]
 pub enum PositiveCount {
-    Maxiter,
-    Maxfev,
-    Maxcor,
+    Maxiter = 1,
+    Maxfev = 2,
+    Maxcor = 3,
 }
 
-// The numbers that must be finite and positive.
+// The numbers that must be finite and positive, with their details.
 #[derive(Clone, Copy, Debug, PartialEq, Eq)]
 pub enum PositiveFloat {
-    Tol,
-    Eps,
+    Tol = 1,
+    Eps = 2,
 }
 
-// The numbers that must be finite and at least 0.
+// The numbers that must be finite and at least 0, with their details.
 #[derive(Clone, Copy, Debug, PartialEq, Eq)]
 pub enum NonnegativeFloat {
-    Ftol,
-    Gtol,
+    Ftol = 1,
+    Gtol = 2,
 }
 
-// The counts that have a limit.
+// The counts that have a limit, with their details.
 #[derive(Clone, Copy, Debug, PartialEq, Eq)]
 pub enum Limited {
-    Coordinates,
-    Maxcor,
-    Maxiter,
-    Maxfev,
+    Coordinates = 1,
+    Maxcor = 2,
+    Maxiter = 3,
+    Maxfev = 4,
 }
 
 // Why a call is refused: `InvalidInput`, then what the Rust lacks.
@@ -118,54 +116,6 @@ pub enum Refusal {
     Malformed,
     SumsDiffer,
     OutputShort { needed: usize },
-}
-
-impl PositiveCount {
-    // The option's place among the counts.
-    fn detail(self) -> usize
-        ensures { result ≡ count_detail self }
-    {
-        match self {
-            PositiveCount::Maxiter => 1,
-            PositiveCount::Maxfev => 2,
-            PositiveCount::Maxcor => 3,
-        }
-    }
-}
-
-impl PositiveFloat {
-    fn detail(self) -> usize
-        ensures { result ≡ positive_detail self }
-    {
-        match self {
-            PositiveFloat::Tol => 1,
-            PositiveFloat::Eps => 2,
-        }
-    }
-}
-
-impl NonnegativeFloat {
-    fn detail(self) -> usize
-        ensures { result ≡ nonnegative_detail self }
-    {
-        match self {
-            NonnegativeFloat::Ftol => 1,
-            NonnegativeFloat::Gtol => 2,
-        }
-    }
-}
-
-impl Limited {
-    fn detail(self) -> usize
-        ensures { result ≡ limited_detail self }
-    {
-        match self {
-            Limited::Coordinates => 1,
-            Limited::Maxcor => 2,
-            Limited::Maxiter => 3,
-            Limited::Maxfev => 4,
-        }
-    }
 }
 
 impl Refusal {
@@ -206,62 +156,12 @@ impl Refusal {
             Refusal::BoundsOrder { index } | Refusal::InfeasibleBound { index } => (index, 0),
             Refusal::BoundsLength { expected, found } => (expected, found),
             Refusal::GradientLength { expected, found } => (expected, found),
-            Refusal::NotPositive(option) => (option.detail(), 0),
-            Refusal::NotFinitePositive(option) => (option.detail(), 0),
-            Refusal::NotFiniteNonnegative(option) => (option.detail(), 0),
-            Refusal::OverLimit(of) => (of.detail(), 0),
+            Refusal::NotPositive(option) => (option as usize, 0),
+            Refusal::NotFinitePositive(option) => (option as usize, 0),
+            Refusal::NotFiniteNonnegative(option) => (option as usize, 0),
+            Refusal::OverLimit(of) => (of as usize, 0),
             Refusal::AreaShort { needed } | Refusal::OutputShort { needed } => (needed, 0),
             _ => (0, 0),
-        }
-    }
-}
-
-impl fmt::Display for Refusal {
-    fn fmt<W: fmt::Write>(&self, f: &mut fmt::Formatter<W>) -> fmt::Result {
-        match *self {
-            Refusal::EmptyX0 => f.write_str("the start has no coordinate"),
-            Refusal::NonfiniteX0 { index } => write!(
-                f,
-                "coordinate {index} of the start is not finite"
-            ),
-            Refusal::BoundsLength { expected, found } => write!(
-                f,
-                "a side of the box has {found} bounds, not {expected}"
-            ),
-            Refusal::NanBound { index } => write!(f, "bound {index} is not a number"),
-            Refusal::BoundsOrder { index } => write!(
-                f,
-                "upper bound {index} is below the lower one"
-            ),
-            Refusal::InfeasibleBound { index } => write!(
-                f,
-                "no finite number lies between the bounds {index}"
-            ),
-            Refusal::NotPositive(option) => write!(f, "{option:?} is zero"),
-            Refusal::NotFinitePositive(option) => write!(
-                f,
-                "{option:?} is not finite and positive"
-            ),
-            Refusal::NotFiniteNonnegative(option) => write!(
-                f,
-                "{option:?} is not finite and at least 0"
-            ),
-            Refusal::OverLimit(of) => write!(f, "{of:?} is over its limit"),
-            Refusal::AreaShort { needed } => write!(f, "the area has fewer than {needed} words"),
-            Refusal::LogShort => f.write_str("the log has no room"),
-            Refusal::NotDue => f.write_str("no such reply is due"),
-            Refusal::GradientLength { expected, found } => write!(
-                f,
-                "the gradient has {found} coordinates, not {expected}"
-            ),
-            Refusal::NoReport => f.write_str("there is no report yet"),
-            Refusal::TooFewReplies => f.write_str("there are fewer replies"),
-            Refusal::Malformed => f.write_str("the record is malformed"),
-            Refusal::SumsDiffer => f.write_str("the sums differ"),
-            Refusal::OutputShort { needed } => write!(
-                f,
-                "the output has fewer than {needed} places"
-            ),
         }
     }
 }
@@ -318,12 +218,10 @@ fn infeasible(low: f64, high: f64) -> bool
 }
 
 // A coordinate's pair of bounds: 5 for their order, then 6 where no finite number lies between them.
-fn check_pair(lower: &[f64], upper: &[f64], index: usize) -> Result<(), Refusal>
-    requires { (index < length lower.now) × (index < length upper.now) }
-    ensures { check_of result ≡ check_pair (box_of lower.now upper.now) index }
+fn check_pair(index: usize, low: f64, high: f64) -> Result<(), Refusal>
+    ensures { check_of result
+        ≡ (when (lt high low) (refuse 5 index 0) then when (eq low infinity || eq high neg_infinity) (refuse 6 index 0)) }
 {
-    let low = lower[index];
-    let high = upper[index];
     if high < low {
         return Err(Refusal::BoundsOrder { index });
     }
@@ -339,8 +237,8 @@ fn check_pairs(lower: &[f64], upper: &[f64]) -> Result<(), Refusal>
     requires { length lower.now ≡ length upper.now }
     ensures { check_of result ≡ each_pair (box_of lower.now upper.now) }
 {
-    for i in 0..lower.len() {
-        check_pair(lower, upper, i)?;
+    for (index, (low, high)) in lower.iter().zip(upper).enumerate() {
+        check_pair(index, *low, *high)?;
     }
     Ok(())
 }

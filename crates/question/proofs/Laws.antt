@@ -14,7 +14,8 @@ use Rattle.area.proofs.Laws.{length-view}
 use Rattle.question.specs.Reports.{written, probe_word}
 
 -- the words of vector p, lent as a slice, in front of z
-pub copied : (a z : List Float) (n p : ℕ) {x : List Float} → x ≡ take (p * n + n - p * n) (drop (p * n) a) → p * n + n ≤ length a → x ++ drop n z ≡ written (view a n p) z
+pub copied : (a z : List Float) (n p : ℕ) {x : List Float} → x ≡ take (p * n + n - p * n) (drop (p * n) a) → p * n + n ≤ length a
+    → x ++ drop n z ≡ written (view a n p) z
 unfolding view part
 copied a z n p e l =
     let k : p * n + n - p * n ≡ n = omega arith in

@@ -1,14 +1,14 @@
 -- Laws of loops that store words one behind the other: a list with the first of some words in place of its own. Assumes nothing.
 use Prim.Native.Nat.{ℕ, suc, ◌+◌, ◌-◌, ◌*◌, ◌≤◌, ◌<◌}
 use native.Mathlib.Omega.{arith}
-use mathlib.Core.Path.{◌≡◌, refl, ap, ap₂, ◌∙◌}
+use mathlib.Core.Path.{◌≡◌, refl, sym, ap, ap₂, ◌∙◌}
 use mathlib.Core.List.{List, ◌++◌}
 use borrow.Author.Rules.{rules}
 use lib.ListN.{length, get_or, set, take, drop, length-set}
 use lib.Seq.{take_all, paste, paste-zero, paste-suc}
 use Rattle.definition.specs.Record.{number_of, words_of}
 use Rattle.definition.proofs.Bytes.{words_of-length}
-use Rattle.record.proofs.Reading.{word_from}
+use Rattle.record.proofs.Reading.{word-get}
 use Rattle.rebuild.specs.Built.{headed}
 
 -- the words s stand in d from `at` on, as far as i
@@ -49,26 +49,25 @@ pasting_done {A} {d} {at} {s} {b} {i} h l =
 
 -- ---- a record's words at the front of the log
 
-pub record Copying (d bs : List ℕ) (at count : ℕ) (b : List ℕ) (i : ℕ) : Type 0 where
-  pub turns : Pasting d 0 (words_of count (drop at bs)) b i
+pub record Copying (d bs : List ℕ) (count : ℕ) (b : List ℕ) (i : ℕ) : Type 0 where
+  pub turns : Pasting d 0 (words_of count bs) b i
   pub long : length b ≡ length d
 
-pub copying_none : (d bs : List ℕ) (at count : ℕ) → count ≤ length d → Copying d bs at count d 0
-copying_none d bs at count h =
-    record { turns = pasting_none d 0 (words_of count (drop at bs)) (omega (arith, words_of-length count (drop at bs))); long = refl }
+pub copying_none : (d bs : List ℕ) (count : ℕ) → count ≤ length d → Copying d bs count d 0
+copying_none d bs count h = record { turns = pasting_none d 0 (words_of count bs) (omega (arith, words_of-length count bs)); long = refl }
 
-pub copying_more : {d b bs : List ℕ} {at count i w : ℕ} → Copying d bs at count b i → i < count → w ≡ number_of (take 8 (drop (at + 8 * i) bs))
-    → Copying d bs at count (set b i w) (i + 1)
-copying_more {d} {b} {bs} {at} {count} {i} {w} h l e =
+pub copying_more : {d b bs : List ℕ} {count i w : ℕ} → Copying d bs count b i → i < count → w ≡ number_of (take 8 (drop (8 * i) bs))
+    → Copying d bs count (set b i w) (i + 1)
+copying_more {d} {b} {bs} {count} {i} {w} h l e =
     let here : i ≡ i - 0 = omega arith in
     let more
-    = pasting_more w 0 h.turns (omega (arith, words_of-length count (drop at bs)))
-    (e ∙ word_from bs at count i l ∙ ap (λ (k : ℕ). get_or (words_of count (drop at bs)) k 0) here) in
+    = pasting_more w 0 h.turns (omega (arith, words_of-length count bs))
+    (e ∙ sym (word-get count i bs l) ∙ ap (λ (k : ℕ). get_or (words_of count bs) k 0) here) in
     record { turns = more; long = more.long }
 
-pub copying_done : {d b bs : List ℕ} {at count i : ℕ} → Copying d bs at count b i → count ≤ i → b ≡ headed (words_of count (drop at bs)) d
-copying_done {d} {b} {bs} {at} {count} {i} h l =
-    let last : 0 + length (words_of count (drop at bs)) ≡ length (words_of count (drop at bs)) = omega arith in
-    pasting_done h.turns (omega (arith, words_of-length count (drop at bs))) ∙ ap (λ (k : ℕ). words_of count (drop at bs) ++ drop k d) last
+pub copying_done : {d b bs : List ℕ} {count i : ℕ} → Copying d bs count b i → count ≤ i → b ≡ headed (words_of count bs) d
+copying_done {d} {b} {bs} {count} {i} h l =
+    let last : 0 + length (words_of count bs) ≡ length (words_of count bs) = omega arith in
+    pasting_done h.turns (omega (arith, words_of-length count bs)) ∙ ap (λ (k : ℕ). words_of count bs ++ drop k d) last
 
 pub ruleset laws = (rules, copying_more, copying_done)

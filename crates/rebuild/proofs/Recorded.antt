@@ -1,16 +1,14 @@
 -- Laws of a record that opens: where its entries stand, how it is read on, and the fit of its setup. Assumes nothing.
-use Prim.Native.Nat.{ℕ, zero, suc, ◌+◌, ◌-◌, ◌*◌, ◌/◌, ◌≤◌}
+use Prim.Native.Nat.{ℕ, ◌-◌, ◌*◌, ◌/◌, ◌≤◌}
 use native.Mathlib.Omega.{arith}
-use mathlib.Core.Path.{◌≡◌, refl, sym, ap, ◌∙◌, subst}
+use mathlib.Core.Path.{◌≡◌, sym, ap, ◌∙◌, subst}
 use mathlib.Core.Bool.{true}
-use mathlib.Core.List.{List, ◌∷◌}
-use lib.ListN.{length, take, drop, length-drop}
-use lib.Seq.{drop-drop, length-take-le}
-use Rattle.std.proofs.lemmas.List.{take-take, drop-take}
+use mathlib.Core.List.{List}
+use lib.ListN.{length, take, drop}
 use lib.Ieee.{Float}
 use Rattle.definition.specs.Problem.{Setup, validate, area_needed}
 use Rattle.definition.specs.Log.{entries_of}
-use Rattle.definition.specs.Record.{read_record, reading_of, number_of, words_of, setup_in}
+use Rattle.definition.specs.Record.{read_record, reading_of, setup_in}
 use Rattle.definition.proofs.Accepted.{accepted_in_limits}
 use Rattle.definition.proofs.Bytes.{words_of-length}
 use Rattle.area.proofs.Sizes.{behind}
@@ -21,55 +19,29 @@ use Rattle.fit.specs.declared.Fit.{Fit}
 use Rattle.opening.specs.Opened.{Room, Fits, Opened}
 use Rattle.held.specs.Test.{is_ready}
 use Rattle.record.specs.declared.Frame.{Frame}
-use Rattle.record.specs.Records.{words_in, setup_from, floats_of, Opens}
-use Rattle.record.proofs.Reading.{words-drop}
+use Rattle.record.specs.Records.{words_in, entry_bytes, setup_from, floats_of, Opens}
+use Rattle.record.proofs.Reading.{words_rest}
 use Rattle.record.proofs.Floats.{opened_setup}
 use Rattle.rebuild.specs.Built.{entries_in, Built}
 use Rattle.held.proofs.Laws.{reached_ready, opened_reached}
 
--- words of a part that has just as many
-words_front : (n : ℕ) (bs : List ℕ) → words_of n (take (8 * n) bs) ≡ words_of n bs
-unfolding words_of
-words_front zero bs = refl
-words_front (suc n) bs =
-    let e : 8 * suc n ≡ 8 + 8 * n = omega arith in
-    let front : take 8 (take (8 + 8 * n) bs) ≡ take 8 bs = take-take 8 (8 + 8 * n) bs (omega arith) in
-    let rest : drop 8 (take (8 + 8 * n) bs) ≡ take (8 * n) (drop 8 bs) = drop-take 8 (8 * n) bs in
-    rw (e, front, rest) (ap (λ (ws : List ℕ). number_of (take 8 bs) ∷ ws) (words_front n (drop 8 bs)))
-
-lent : (bs : List ℕ) (n k : ℕ) → k ≡ 8 * n → 8 * n ≤ length bs → words_of (length (take k bs) / 8) (take k bs) ≡ words_of n bs
-lent bs n k e h =
-    let long : length (take (8 * n) bs) ≡ 8 * n = length-take-le (8 * n) bs h in
-    let count : length (take (8 * n) bs) / 8 ≡ n = omega arith in
-    rw (e, count) (words_front n bs)
-
 module _ (bs : List ℕ) (size : ℕ) (o : Options) (f : Frame) (h : Opens bs size o f) where
   abbrev pub setup : Setup
-  setup = setup_in (words_in bs f)
+  setup = setup_in (words_in f)
 
   abbrev pub entries : List ℕ
-  entries = entries_in bs f
+  entries = entries_in f
 
-  pub entries_long : length entries ≡ f.words - f.setup
-  entries_long = words_of-length (f.words - f.setup) (drop (f.at + 8 * f.setup) bs)
-
-  pub entries_within : f.at + 8 * f.setup + 8 * (f.words - f.setup) ≤ length bs
-  entries_within = omega (arith, h.placed.within, h.whole)
-
-  -- the words of the part of the bytes that is lent for them
-  pub entries_lent : (k : ℕ) → k ≡ 8 * (f.words - f.setup)
-      → words_of (length (take k (drop (f.at + 8 * f.setup) bs)) / 8) (take k (drop (f.at + 8 * f.setup) bs)) ≡ entries
-  entries_lent k e =
-      lent (drop (f.at + 8 * f.setup) bs) (f.words - f.setup) k e (omega (arith, entries_within, length-drop (f.at + 8 * f.setup) bs))
-
-  entries_behind : drop f.setup (words_in bs f) ≡ entries
-  entries_behind = words-drop f.setup f.words (drop f.at bs) h.whole ∙ ap (words_of (f.words - f.setup)) (drop-drop (8 * f.setup) f.at bs)
+  -- what `entries` asks
+  pub entries_within : 8 * f.setup ≤ length f.bytes.now
+  entries_within = omega (arith, h.whole, words_of-length (length f.bytes.now / 8) f.bytes.now)
 
   pub reading : (room : ℕ) → read_record (record { area = size; log = room }) bs ≡ reading_of setup (entries_of setup room entries)
-  reading room = h.reads room ∙ ap (λ (ws : List ℕ). reading_of setup (entries_of setup room ws)) entries_behind
+  reading room =
+      h.reads room ∙ ap (λ (ws : List ℕ). reading_of setup (entries_of setup room ws)) (words_rest f.bytes.now f.setup h.whole)
 
   -- the setup of its options and vectors
-  pub record_setup : (p : Lent) (v : List Float) → setup_of p ≡ setup_from o v f.n → v ≡ floats_of (take (f.setup - 7) (drop 7 (words_in bs f)))
+  pub record_setup : (p : Lent) (v : List Float) → setup_of p ≡ setup_from o v f.n → v ≡ floats_of (take (f.setup - 7) (drop 7 (words_in f)))
       → setup_of p ≡ setup
   record_setup p v is e = is ∙ ap (λ (x : List Float). setup_from o x f.n) e ∙ opened_setup bs size o f h
 
@@ -92,6 +64,6 @@ module _ (bs : List ℕ) (size : ℕ) (o : Options) (f : Frame) (h : Opens bs si
   record_ready z k = reached_ready (opened_reached h.accepted (subst (λ (i : ℕ). area_needed setup ≤ i) (sym (k.long ∙ z)) h.room) k)
 
   -- what `copy_entries` asks
-  pub copies_within : {s : Setup} {limit room : ℕ} {a : List Float} {t : Fit} {b : List Float} → Built s (entries_in bs f) limit room a t b
-      → (f.at + 8 * f.setup + 8 * t.extra.words ≤ length bs) × (t.extra.words ≤ room)
-  copies_within k = (omega (arith, k.words, entries_long, entries_within), k.within)
+  pub copies_within : {s : Setup} {limit room : ℕ} {a : List Float} {t : Fit} {b : List Float} → Built s (entries_in f) limit room a t b
+      → (8 * t.extra.words ≤ length (entry_bytes f)) × (t.extra.words ≤ room)
+  copies_within k = (omega (arith, k.words, words_of-length (length (entry_bytes f) / 8) (entry_bytes f)), k.within)

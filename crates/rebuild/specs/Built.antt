@@ -1,5 +1,5 @@
 -- What the parts of a take back and of a restore do: words zeroed or copied, and the fit of a setup and entries built anew.
-use Rattle.std.specs.Prelude.{ℕ, ◌+◌, ◌-◌, ◌*◌, ◌≤◌, ◌<◌, ◌≡◌, true, cond, ◌⊎◌, List, ◌++◌, ltb, length, take, drop, replicate, Float}
+use Rattle.std.specs.Prelude.{ℕ, ◌-◌, ◌≤◌, ◌<◌, ◌≡◌, true, cond, ◌⊎◌, List, ◌++◌, ltb, length, take, drop, replicate, Float}
 use Rattle.std.specs.Prelude.{None, Result, Ok, Err}
 use Rattle.definition.specs.Number.{zero64}
 use Rattle.definition.specs.Problem as P
@@ -13,6 +13,7 @@ use Rattle.fit.specs.declared.Fit.{Fit}
 use Rattle.opening.specs.Opened.{setup_at}
 use Rattle.held.specs.Test.{shape_held, marked, Marks}
 use Rattle.record.specs.declared.Frame.{Frame}
+use Rattle.record.specs.Records.{all_words, entry_bytes}
 use Rattle.replay.specs.Replays.{Replayable, ReplayedTo, RefusedAt}
 use Rattle.problem.specs.Setups.{refusal_of}
 use Rattle.problem.specs.declared.Refusal.{Refusal}
@@ -28,8 +29,8 @@ abbrev pub struck_out : ℕ → ℕ → List ℕ → List ℕ
 struck_out from to l = take from l ++ replicate (to - from) 0 ++ drop to l
 
 -- the words of a record's entries
-abbrev pub entries_in : List ℕ → Frame → List ℕ
-entries_in bs f = words_of (f.words - f.setup) (drop (f.at + 8 * f.setup) bs)
+abbrev pub entries_in : Frame → List ℕ
+entries_in f = all_words (entry_bytes f)
 
 -- ws in place of as many of the first words
 abbrev pub headed : List ℕ → List ℕ → List ℕ
@@ -96,6 +97,6 @@ Shortens (Ok f) to l m = m ≡ struck_out f.extra.words to l
 Shortens (Err c) to l m = m ≡ l
 
 -- the words of the record's entries stand in front; as it was where one is refused
-abbrev pub Reloads : Result Fit Refusal → List ℕ → Frame → List ℕ → List ℕ → Type 0
-Reloads (Ok t) bs f l m = m ≡ headed (words_of t.extra.words (drop (f.at + 8 * f.setup) bs)) l
-Reloads (Err c) bs f l m = m ≡ l
+abbrev pub Reloads : Result Fit Refusal → Frame → List ℕ → List ℕ → Type 0
+Reloads (Ok t) f l m = m ≡ headed (words_of t.extra.words (entry_bytes f)) l
+Reloads (Err c) f l m = m ≡ l

@@ -7,7 +7,7 @@ ghost use Rattle.definition.specs.Record.{words_of, setup_in as setup_read};
 ghost use Rattle.area.specs.Area.{view};
 ghost use Rattle.opening.specs.Opened.{setup_at, Room, Opened};
 ghost use Rattle.held.specs.Test.{is_ready};
-ghost use Rattle.record.specs.Records.{words_in, setup_from, Opens};
+ghost use Rattle.record.specs.Records.{words_in, setup_from, HasOpened};
 ghost use Rattle.rebuild.specs.Built.{zeroed, struck_out, entries_in, headed, Markable, Settles, all_of, Builds, Stays, Shortens, Reloads};
 
 use fit::Fit;
@@ -51,38 +51,36 @@ fn replay_log(fit: Fit, area: &mut [f64], log: &[u64], count: usize) -> Result<F
     all
 }
 
-// The fit of a record's setup and entries, for a log of `room` words. Each entry has a word, so none is past `words` of them.
-fn replay_record(
-    area: &mut [f64],
-    room: usize,
-    input: &[u8],
-    parsed: Parsed,
-) -> Result<Fit, Refusal>
-    requires { Opens input.now (length area.old) parsed.options parsed.frame }
-    ensures { let frame = parsed.frame in
-        Builds (setup_read (words_in input.now frame)) (entries_in input.now frame) (frame.words - frame.setup) room
-        area.old result area.new }
+// The fit of a record's setup and entries, for a log of `room` words. Each entry has a word, so none is past as many.
+fn replay_record(area: &mut [f64], room: usize, parsed: Parsed) -> Result<Fit, Refusal>
+    requires { HasOpened (length area.old) parsed }
+    ensures { let ws = entries_in parsed.entry.frame in
+        Builds (setup_read (words_in parsed.entry.frame)) ws (length ws) room area.old result area.new }
 {
     let frame = parsed.frame;
-    let vectors = record::vectors(input, frame);
+    let vectors = frame.vectors();
     let setup = record::setup_from(parsed.options, &vectors, frame.n);
     let first = opening::begin(setup, area);
-    let words = frame.words - frame.setup;
-    let at = frame.at + 8 * frame.setup;
-    let source = Source::Record(&input[at..at + 8 * words]);
-    let replayed = replay::replay(first, area, source, words, room);
+    let entries = frame.entries();
+    let replayed = replay::replay(
+        first,
+        area,
+        Source::Record(entries),
+        entries.len() / 8,
+        room,
+    );
     settle(area, replayed);
     replayed
 }
 
 // The words of a record's entries into the log.
 // Kept: an index. Words are made of bytes, and what `iter_mut().zip(..)` leaves in a slice is not known to a proof.
-fn copy_entries(log: &mut [u64], input: &[u8], at: usize, count: usize)
-    requires { (at + 8 * count ≤ length input.now) × (count ≤ length log.old) }
-    ensures { log.new ≡ headed (words_of count (drop at input.now)) log.old }
+fn copy_entries(log: &mut [u64], bytes: &[u8], count: usize)
+    requires { (8 * count ≤ length bytes.now) × (count ≤ length log.old) }
+    ensures { log.new ≡ headed (words_of count bytes.now) log.old }
 {
     for i in 0..count {
-        log[i] = record::word_at(input, at + 8 * i);
+        log[i] = record::word_at(bytes, 8 * i);
     }
 }
 
@@ -99,20 +97,13 @@ pub fn shorten(fit: Fit, area: &mut [f64], log: &mut [u64], count: usize) -> Res
 }
 
 // The fit of a record, and its entries in the log. Where one is refused the log stays.
-pub fn reload(
-    area: &mut [f64],
-    log: &mut [u64],
-    input: &[u8],
-    parsed: Parsed,
-) -> Result<Fit, Refusal>
-    requires { Opens input.now (length area.old) parsed.options parsed.frame }
-    ensures { let frame = parsed.frame in
-        Builds (setup_read (words_in input.now frame)) (entries_in input.now frame) (frame.words - frame.setup) (length log.old)
-        area.old result area.new
-        × Reloads result input.now frame log.old log.new }
+pub fn reload(area: &mut [f64], log: &mut [u64], parsed: Parsed) -> Result<Fit, Refusal>
+    requires { HasOpened (length area.old) parsed }
+    ensures { let ws = entries_in parsed.entry.frame in
+        Builds (setup_read (words_in parsed.entry.frame)) ws (length ws) (length log.old) area.old result area.new
+        × Reloads result parsed.entry.frame log.old log.new }
 {
-    let read = replay_record(area, log.len(), input, parsed)?;
-    let frame = parsed.frame;
-    copy_entries(log, input, frame.at + 8 * frame.setup, read.extra.words);
+    let read = replay_record(area, log.len(), parsed)?;
+    copy_entries(log, parsed.frame.entries(), read.extra.words);
     Ok(read)
 }

@@ -1,25 +1,28 @@
 -- Laws of reading: words by number, where a record stands, and what each check ahead of the entries makes of the definition's reading. Assumes nothing.
-use Rattle.std.proofs.Common.{◌≡◌, ℕ, zero, suc, ◌+◌, ◌-◌, ◌*◌, ◌/◌, ◌%◌, ◌<◌, ◌≤◌, Bool, true, false, cond, not, ◌&&◌, eqb, ltb, leb, List, ◌∷◌, length, get_or, take, drop, sym, refl, ap, ◌∙◌, ap₂, arith, length-drop, length-take-le, drop-drop, ltb-false, le-ltb, lt-ltb, eq-eqb, ne_eqb, le-leb, leb-false, leb-true}
+use Rattle.std.proofs.Common.{◌≡◌, ℕ, zero, suc, ◌+◌, ◌-◌, ◌*◌, ◌/◌, ◌<◌, ◌≤◌, Bool, true, false, cond, not, ◌&&◌, eqb, ltb, leb, List, ◌∷◌, length}
+use Rattle.std.proofs.Common.{get_or, take, drop, sym, refl, ap, ◌∙◌, ap₂, arith, length-drop, length-take-le, drop-drop, ltb-false, le-ltb, lt-ltb, eq-eqb}
+use Rattle.std.proofs.Common.{ne_eqb, le-leb, leb-false, leb-true}
 use Rattle.std.specs.Prelude.{None, Some, Err}
 use borrow.Author.Tests.{lt-leb, not-true}
 use lib.ListN.{length-map, get_or-eq_default}
+use Rattle.std.proofs.lemmas.List.{take-take, drop-take}
 use lib.Ieee.{Float}
 use Rattle.definition.specs.Number.{to_float}
-use Rattle.definition.specs.Problem.{validate, ◌then◌, or_else, area_needed, area_words, maxcor_of}
+use Rattle.definition.specs.Problem.{validate, ◌then◌, area_needed}
 use Rattle.definition.specs.Log.{entries_of}
-use Rattle.definition.specs.Record.{number_of, words_of, sums, framed, malformed, n_in, maxcor_in, has_box, setup_length, floats_at, setup_in, check_area}
+use Rattle.definition.specs.Record.{number_of, words_of, sums, framed, malformed, n_in, has_box, setup_length, floats_at, setup_in, check_area}
 use Rattle.definition.specs.Record.{check_words, unless_refused, Reading, reading_of, read_words, read_record, Lengths, plain_refusal}
 use Rattle.definition.proofs.Tests.{both_true, both_false}
 use Rattle.definition.proofs.Bytes.{words_of-length}
-use Rattle.definition.proofs.Accepted.{accepted_in_limits}
+use Rattle.definition.proofs.Accepted.{both_passed, test_failed, accepted_in_limits}
 use Rattle.problem.specs.Setups as P
 use Rattle.problem.specs.Setups.{refusal_of}
 use Rattle.problem.specs.declared.Options.{Options}
 use Rattle.problem.specs.declared.Refusal.{Refusal}
 use Rattle.problem.specs.declared.Refusal.TheVariants as Q
 use Rattle.record.specs.declared.Frame.{Frame}
-use Rattle.record.specs.Records.{trailer_in, framed_in, words_in, frame_from, frame_in, Placed, sums_agree}
-use Rattle.record.specs.Records.{Formed, OptionsIn, setup_by, lengths, Opens, Parsing}
+use Rattle.record.specs.Records.{trailer_in, framed_in, all_words, words_in, bytes_ahead, Counted, Placed, sums_agree}
+use Rattle.record.specs.Records.{OptionsIn, setup_by, lengths, Opens, Parsing}
 
 -- ---- words by number
 
@@ -38,6 +41,9 @@ word_past k i bs h = sym (get_or-eq_default (words_of k bs) 0 (omega (arith, wor
 pub word_from : (bs : List ℕ) (at k i : ℕ) → i < k → number_of (take 8 (drop (at + 8 * i) bs)) ≡ get_or (words_of k (drop at bs)) i 0
 word_from bs at k i h = sym (word-get k i (drop at bs) h ∙ ap (λ (l : List ℕ). number_of (take 8 l)) (drop-drop (8 * i) at bs))
 
+pub word_within : (bs : List ℕ) (i : ℕ) → i < length bs / 8 → number_of (take 8 (drop (8 * i) bs)) ≡ get_or (all_words bs) i 0
+word_within bs i h = sym (word-get (length bs / 8) i bs h)
+
 pub words_take : (j k : ℕ) (bs : List ℕ) → j ≤ k → take j (words_of k bs) ≡ words_of j bs
 unfolding words_of
 words_take zero k bs h = refl
@@ -52,6 +58,30 @@ words-drop (suc j) (suc k) bs h =
     let e : 8 + 8 * j ≡ 8 * suc j = omega arith in
     let f : k - j ≡ suc k - suc j = omega arith in
     words-drop j k (drop 8 bs) (omega arith) ∙ ap₂ (λ (n : ℕ) (l : List ℕ). words_of n l) f (drop-drop (8 * j) 8 bs ∙ ap (λ (i : ℕ). drop i bs) e)
+
+-- words of a part that has just as many
+words_front : (n : ℕ) (bs : List ℕ) → words_of n (take (8 * n) bs) ≡ words_of n bs
+unfolding words_of
+words_front zero bs = refl
+words_front (suc n) bs =
+    let e : 8 * suc n ≡ 8 + 8 * n = omega arith in
+    let front : take 8 (take (8 + 8 * n) bs) ≡ take 8 bs = take-take 8 (8 + 8 * n) bs (omega arith) in
+    let rest : drop 8 (take (8 + 8 * n) bs) ≡ take (8 * n) (drop 8 bs) = drop-take 8 (8 * n) bs in
+    rw (e, front, rest) (ap (λ (ws : List ℕ). number_of (take 8 bs) ∷ ws) (words_front n (drop 8 bs)))
+
+words_lent : (bs : List ℕ) (n : ℕ) → 8 * n ≤ length bs → all_words (take (8 * n) bs) ≡ words_of n bs
+words_lent bs n h =
+    let long : length (take (8 * n) bs) ≡ 8 * n = length-take-le (8 * n) bs h in
+    let count : length (take (8 * n) bs) / 8 ≡ n = omega arith in
+    rw count (words_front n bs)
+
+-- the words from number j on are those of the bytes behind
+pub words_rest : (bs : List ℕ) (j : ℕ) → j ≤ length (all_words bs) → drop j (all_words bs) ≡ all_words (drop (8 * j) bs)
+words_rest bs j h =
+    let long : length (all_words bs) ≡ length bs / 8 = words_of-length (length bs / 8) bs in
+    let size : length (drop (8 * j) bs) ≡ length bs - 8 * j = length-drop (8 * j) bs in
+    let count : length bs / 8 - j ≡ length (drop (8 * j) bs) / 8 = omega (arith, size, long, h) in
+    words-drop j (length bs / 8) bs (omega (arith, long, h)) ∙ ap (λ (k : ℕ). words_of k (drop (8 * j) bs)) count
 
 -- ---- the trailer
 
@@ -108,20 +138,6 @@ framed_fits bs e =
     true_not : (t : Bool) → not t ≡ true → t ≡ false
     true_not t e = not-true t e
 
-pub frame_same : (bs : List ℕ) (c w s : ℕ) → c ≡ get_or (trailer_in bs) 3 0 → w ≡ get_or (words_of c (drop (length bs - 32 - 8 * c) bs)) 0 0 → s ≡ setup_length w
-    → ◌≡◌ {A = Frame} (record { at = length bs - 32 - 8 * c; words = c; n = w % 256; setup = s }) (frame_in bs)
-unfolding frame_in
-frame_same bs c w s e f g =
-    ap (λ (t : ℕ). record { at = length bs - 32 - 8 * c; words = c; n = w % 256; setup = t }) g
-    ∙ ap (frame_from (length bs - 32 - 8 * c) c) f
-    ∙ ap (λ (k : ℕ). frame_from (length bs - 32 - 8 * k) k (get_or (words_of k (drop (length bs - 32 - 8 * k) bs)) 0 0)) e
-
-pub frame_placed : (bs : List ℕ) (f : Frame) → framed_in bs ≡ true → f ≡ frame_in bs → Placed bs f
-unfolding frame_in
-frame_placed bs f h e =
-    let k = framed_fits bs h in
-    rw e (record { within = omega (arith, k.long, k.room); n = refl; setup = refl })
-
 -- the trailer's count leaves room for itself
 pub count_fits : (bs : List ℕ) (j c : ℕ) → framed_in bs ≡ true → j + 8 ≡ length bs → c ≡ number_of (take 8 (drop j bs)) → 8 * c + 32 ≤ length bs
 count_fits bs j c h at e =
@@ -129,38 +145,40 @@ count_fits bs j c h at e =
     let same = trailer_word bs 3 j c k.long (omega arith) (omega (arith, k.long)) e in
     omega (arith, k.long, k.room)
 
+-- the bytes lent for as many words as the trailer says
+pub bytes_lent : (bs : List ℕ) (j c : ℕ) → framed_in bs ≡ true → j + 8 ≡ length bs → c ≡ number_of (take 8 (drop j bs))
+    → take (length bs - 32 - (length bs - 32 - 8 * c)) (drop (length bs - 32 - 8 * c) bs) ≡ bytes_ahead bs
+bytes_lent bs j c h at e =
+    let k = framed_fits bs h in
+    let fits = count_fits bs j c h at e in
+    let size : length bs - 32 - (length bs - 32 - 8 * c) ≡ 8 * c = omega (arith, fits) in
+    let same = trailer_word bs 3 j c k.long (omega arith) (omega (arith, k.long)) e in
+    ap (λ (i : ℕ). take i (drop (length bs - 32 - 8 * c) bs)) size
+    ∙ ap (λ (i : ℕ). take (8 * i) (drop (length bs - 32 - 8 * i) bs)) same
+
 -- ---- the sums
 
-module _ (bs : List ℕ) (f : Frame) (h : f.at + 8 * f.words + 32 ≡ length bs) where
-  pub plain_differs : (p v : ℕ) → p ≡ (sums (words_in bs f)).plain → v ≡ number_of (take 8 (drop (f.at + 8 * f.words) bs)) → (p ≡ v → ⊥) → false ≡ sums_agree bs f
+module _ (bs : List ℕ) (f : Frame) (h : 32 ≤ length bs) where
+  pub plain_differs : (p v : ℕ) → p ≡ (sums (words_in f)).plain → v ≡ number_of (take 8 (drop (length bs - 32) bs)) → (p ≡ v → ⊥) → false ≡ sums_agree bs f
   plain_differs p v e g n =
-      let w = trailer_word bs 0 (f.at + 8 * f.words) v (omega arith) (omega arith) (omega arith) g in
+      let w = trailer_word bs 0 (length bs - 32) v h (omega arith) (omega arith) g in
       rw (← w, ← e, ne_eqb p v n)
 
-  pub running_tells : (p q v w : ℕ) → p ≡ (sums (words_in bs f)).plain → q ≡ (sums (words_in bs f)).running
-      → v ≡ number_of (take 8 (drop (f.at + 8 * f.words) bs)) → w ≡ number_of (take 8 (drop (f.at + 8 * f.words + 8) bs)) → p ≡ v → eqb q w ≡ sums_agree bs f
+  pub running_tells : (p q v w : ℕ) → p ≡ (sums (words_in f)).plain → q ≡ (sums (words_in f)).running
+      → v ≡ number_of (take 8 (drop (length bs - 32) bs)) → w ≡ number_of (take 8 (drop (length bs - 32 + 8) bs)) → p ≡ v → eqb q w ≡ sums_agree bs f
   running_tells p q v w e d g k same =
-      let a = trailer_word bs 0 (f.at + 8 * f.words) v (omega arith) (omega arith) (omega arith) g in
-      let b = trailer_word bs 1 (f.at + 8 * f.words + 8) w (omega arith) (omega arith) (omega arith) k in
+      let a = trailer_word bs 0 (length bs - 32) v h (omega arith) (omega arith) g in
+      let b = trailer_word bs 1 (length bs - 32 + 8) w h (omega arith) (omega arith) k in
       rw (← a, ← b, ← e, ← d, eq-eqb p v same)
 
 -- ---- the form
 
-module _ (bs : List ℕ) (f : Frame) (h : Placed bs f) where
-  words_count : length (words_in bs f) ≡ f.words
-  words_count = words_of-length f.words (drop f.at bs)
-
-  pub setup_cut : f.words < f.setup → true ≡ malformed (words_in bs f)
-  setup_cut l = rw (words_count, ← h.setup, lt-ltb f.words f.setup l)
-
-  pub spare_tells : (w : ℕ) → f.setup ≤ f.words → w ≡ get_or (words_in bs f) 0 0 → leb 262144 w ≡ malformed (words_in bs f)
-  spare_tells w l e = rw (words_count, ← h.setup, le-ltb f.words f.setup l, ← e)
-
-  pub form_whole : malformed (words_in bs f) ≡ false → f.setup ≤ f.words
+module _ (f : Frame) (h : Counted f) where
+  pub form_whole : malformed (words_in f) ≡ false → f.setup ≤ length (words_in f)
   form_whole e =
-      let l = ltb-false (length (words_in bs f)) (setup_length (get_or (words_in bs f) 0 0))
-      (both_false (ltb (length (words_in bs f)) (setup_length (get_or (words_in bs f) 0 0))) _ e).0 in
-      omega (arith, l, words_count, h.setup)
+      let l = ltb-false (length (words_in f)) (setup_length (get_or (words_in f) 0 0))
+      (both_false (ltb (length (words_in f)) (setup_length (get_or (words_in f) 0 0))) _ e).0 in
+      omega (arith, l, h.setup)
 
 -- ---- the definition's reading, check by check
 
@@ -174,18 +192,25 @@ unframed bs area e room = go (ltb (length bs) 32) (framed (length bs) (trailer_i
     go false false r e = refl
     go false true r e = cc
 
-module _ (bs : List ℕ) (f : Frame) (h : framed_in bs ≡ true) (e : f ≡ frame_in bs) where
-  read_words_lem : (z : Lengths) → read_record z bs ≡ read_words z (words_in bs f) (get_or (trailer_in bs) 0 0) (get_or (trailer_in bs) 1 0)
-  unfolding read_record frame_in
+module _ (bs : List ℕ) (f : Frame) (h : framed_in bs ≡ true) (p : Placed bs f) where
+  words_ahead : words_in f ≡ words_of (get_or (trailer_in bs) 3 0) (drop (length bs - 32 - 8 * get_or (trailer_in bs) 3 0) bs)
+  words_ahead =
+      let k = framed_fits bs h in
+      let c = get_or (trailer_in bs) 3 0 in
+      let at = length bs - 32 - 8 * c in
+      ap all_words p.bytes ∙ words_lent (drop at bs) c (omega (arith, k.long, k.room, length-drop at bs))
+
+  read_words_lem : (z : Lengths) → read_record z bs ≡ read_words z (words_in f) (get_or (trailer_in bs) 0 0) (get_or (trailer_in bs) 1 0)
+  unfolding read_record
   read_words_lem z =
       let k = framed_fits bs h in
-      rw (e, le-ltb (length bs) 32 k.long, k.known)
+      rw (words_ahead, le-ltb (length bs) 32 k.long, k.known)
 
   pub sums_refused : (area : ℕ) → sums_agree bs f ≡ false → Parsing bs area (Err Q.SumsDiffer)
   unfolding read_words check_words
   sums_refused area s room = read_words_lem (lengths area room) ∙ rw s
 
-  pub form_refused : (area : ℕ) → sums_agree bs f ≡ true → malformed (words_in bs f) ≡ true → Parsing bs area (Err Q.Malformed)
+  pub form_refused : (area : ℕ) → sums_agree bs f ≡ true → malformed (words_in f) ≡ true → Parsing bs area (Err Q.Malformed)
   unfolding read_words check_words
   form_refused area s m room = read_words_lem (lengths area room) ∙ rw (s, m)
 
@@ -214,68 +239,46 @@ options_setup ws o h =
     )
 
 -- as many coordinates as word 0 says
-pub setup_vectors : (bs : List ℕ) (f : Frame) → Placed bs f → f.setup ≤ f.words → length (setup_in (words_in bs f)).x0 ≡ f.n
+setup_vectors : (f : Frame) → Counted f → f.setup ≤ length (words_in f) → length (setup_in (words_in f)).x0 ≡ f.n
 unfolding setup_in
-setup_vectors bs f h l =
-    let ws = words_in bs f in
+setup_vectors f h l =
+    let ws = words_in f in
     let n = n_in (get_or ws 0 0) in
     let enough = at_least (has_box (get_or ws 0 0)) n f.setup h.setup in
-    length-map (take n (drop 7 ws)) to_float
-    ∙ length-take-le n (drop 7 ws) (omega (arith, length-drop 7 ws, words_of-length f.words (drop f.at bs)))
-    ∙ sym h.n
+    length-map (take n (drop 7 ws)) to_float ∙ length-take-le n (drop 7 ws) (omega (arith, length-drop 7 ws)) ∙ sym h.n
   where
     at_least : (t : Bool) (n m : ℕ) → m ≡ 7 + cond t (3 * n) n → 7 + n ≤ m
     at_least true n m h = omega arith
     at_least false n m h = omega arith
 
-pub pairs_most : (ws : List ℕ) (o : Options) → OptionsIn ws o → P.places_in o ≤ 255
-pairs_most ws o h = rw h.maxcor (go (maxcor_in (get_or ws 0 0)) (eqb (maxcor_in (get_or ws 0 0)) 0) (omega arith))
-  where
-    go : (k : ℕ) (t : Bool) → k ≤ 255 → or_else (cond t None (Some k)) 10 ≤ 255
-    go k true h = omega arith
-    go k false h = h
-
-pub needed : (bs : List ℕ) (f : Frame) → Placed bs f → f.setup ≤ f.words → (o : Options) → OptionsIn (words_in bs f) o
-    → (m need : ℕ) → m ≡ P.places_in o → need ≡ area_words f.n m → need ≡ area_needed (setup_in (words_in bs f))
-needed bs f h l o k m need e g =
-    g
-    ∙ ap₂ (λ (n m : ℕ). area_words n m) (sym (setup_vectors bs f h l)) (e ∙ sym (ap maxcor_of (options_setup (words_in bs f) o k)))
-
 -- ---- sums and form are right: the setup's rows, then the area
 
-module _ (bs : List ℕ) (f : Frame) (k : Formed bs f) where
-  pub formed_placed : Placed bs f
-  formed_placed = frame_placed bs f k.framed k.frame
-
-  pub formed_whole : f.setup ≤ f.words
-  formed_whole = form_whole bs f formed_placed k.form
-
+module _ (bs : List ℕ) (f : Frame) (h : framed_in bs ≡ true) (p : Placed bs f) (s : sums_agree bs f ≡ true) (m : malformed (words_in f) ≡ false) where
   formed_reads : (z : Lengths) → read_record z bs
-      ≡ unless_refused (validate (setup_in (words_in bs f)) then check_area z (setup_in (words_in bs f)))
-      (reading_of (setup_in (words_in bs f)) (entries_of (setup_in (words_in bs f)) z.log (drop f.setup (words_in bs f))))
+      ≡ unless_refused (validate (setup_in (words_in f)) then check_area z (setup_in (words_in f)))
+      (reading_of (setup_in (words_in f)) (entries_of (setup_in (words_in f)) z.log (drop f.setup (words_in f))))
   unfolding read_words check_words
-  formed_reads z = read_words_lem bs f k.framed k.frame z ∙ rw (k.sums, k.form, ← formed_placed.setup)
+  formed_reads z = read_words_lem bs f h p z ∙ rw (s, m, ← p.counted.setup)
 
-  pub rows_refused : (area : ℕ) (c : Refusal) → Some (refusal_of c) ≡ validate (setup_in (words_in bs f)) → Parsing bs area (Err c)
-  rows_refused area c e room = formed_reads (lengths area room) ∙ rw (← e)
+  pub setup_refused : (area : ℕ) (c : Refusal)
+      → ((room : ℕ) → Some (refusal_of c) ≡ (validate (setup_in (words_in f)) then check_area (lengths area room) (setup_in (words_in f))))
+      → Parsing bs area (Err c)
+  setup_refused area c e room = formed_reads (lengths area room) ∙ rw (← (e room))
 
-  pub area_refused : (area need : ℕ) → None ≡ validate (setup_in (words_in bs f)) → need ≡ area_needed (setup_in (words_in bs f)) → area < need
-      → Parsing bs area (Err (Q.AreaShort need))
-  area_refused area need e g l room = formed_reads (lengths area room) ∙ rw (← e, ← g, lt-ltb area need l)
-
-  pub opens : (area need : ℕ) (o : Options) → OptionsIn (words_in bs f) o → None ≡ validate (setup_in (words_in bs f)) → need ≡ area_needed (setup_in (words_in bs f))
-      → need ≤ area
-      → Opens bs area o f
-  opens area need o same e g l =
-      let s = setup_in (words_in bs f) in
-      let fits = setup_vectors bs f formed_placed formed_whole in
+  pub opens : (area : ℕ) (o : Options) → OptionsIn (words_in f) o
+      → ((room : ℕ) → None ≡ (validate (setup_in (words_in f)) then check_area (lengths area room) (setup_in (words_in f)))) → Opens bs area o f
+  opens area o same e =
+      let t = setup_in (words_in f) in
+      let whole = form_whole f p.counted m in
+      let fits = setup_vectors f p.counted whole in
+      let passed = both_passed (validate t) (check_area (lengths area 0) t) (sym (e 0)) in
       record {
-        placed = formed_placed;
-        whole = formed_whole;
-        most = omega (arith, (accepted_in_limits s (sym e)).coordinates.1, fits);
+        placed = p;
+        whole = whole;
+        most = omega (arith, (accepted_in_limits t passed.0).coordinates.1, fits);
         options = same;
-        same = rw formed_placed.n (options_setup (words_in bs f) o same);
-        accepted = sym e;
-        room = omega (arith, g, l);
-        reads = λ room. formed_reads (lengths area room) ∙ rw (← e, ← g, le-ltb area need l);
+        same = rw p.counted.n (options_setup (words_in f) o same);
+        accepted = passed.0;
+        room = ltb-false area (area_needed t) (test_failed (ltb area (area_needed t)) _ passed.1);
+        reads = λ room. formed_reads (lengths area room) ∙ rw (← (e room));
       }

@@ -1,22 +1,19 @@
 -- Laws of writing: the setup's words by number, words written one behind the other with their sums, and the trailer. Assumes nothing.
-use Rattle.std.proofs.Common.{◌≡◌, ℕ, zero, suc, ◌+◌, ◌-◌, ◌*◌, ◌<◌, ◌≤◌, Bool, true, false, cond, List, [], ◌∷◌, ◌++◌, map, length, get_or, take, drop, sym, refl, ap, ◌∙◌, subst, ap₂, append_assoc, append-nil, add-one, arith, length-append, length-take-le, take_all, take-suc, get_or-append-add, rules}
-use Rattle.std.specs.Prelude.{Option, None, Some}
+use Rattle.std.proofs.Common.{◌≡◌, ℕ, zero, suc, ◌+◌, ◌-◌, ◌*◌, ◌<◌, ◌≤◌, Bool, true, false, cond, List, [], ◌∷◌, ◌++◌, map, length, get_or, take, drop, sym}
+use Rattle.std.proofs.Common.{refl, ap, ◌∙◌, ap₂, append_assoc, append-nil, add-one, arith, length-append, length-take-le, take-suc}
+use Rattle.std.proofs.Common.{get_or-append-add}
 use lib.ListN.{length-map, get_or-append}
 use lib.Ieee.{Float}
 use Rattle.definition.specs.Number.{to_word}
-use Rattle.definition.specs.Problem.{or_else, most_pairs, validate}
-use Rattle.definition.specs.Machine.{Reply}
-use Rattle.definition.specs.Log.{log_words}
-use Rattle.definition.specs.Book.{book}
 use Rattle.definition.specs.Record as R
-use Rattle.definition.specs.Record.{box_flag, scheme_flag, bound_words, setup_words, sums_from, sums, bytes_of, bytes, added, trailer, record_words, record_bytes}
+use Rattle.definition.specs.Record.{box_flag, scheme_flag, bound_words, setup_words, sums_from, sums, bytes_of, bytes, added, trailer, record_words}
+use Rattle.definition.specs.Record.{record_bytes}
 use Rattle.definition.proofs.Bytes.{bytes-length, bytes-append}
-use Rattle.definition.proofs.Accepted.{accepted_in_limits}
 use Rattle.problem.specs.declared.Options.{Options}
 use Rattle.problem.specs.Setups as P
 use Rattle.record.specs.declared.Sums.{Sums}
-use Rattle.record.specs.Records.{sums_of, setup_size, leading_words, Savable, saved_words, saved_record, Summed, trailer_of, overwritten}
-use Rattle.record.proofs.Words.{sums_one, put, put-append, put-length, bytes_count}
+use Rattle.record.specs.Records.{sums_of, setup_size, leading_words, Savable, saved_words, Summed, trailer_of, overwritten}
+use Rattle.record.proofs.Words.{summing_none, sums_one, put, put-append, put-length, bytes_count}
 
 -- ---- the setup's words by number
 
@@ -28,7 +25,8 @@ flag_is : (t : Bool) (l u : List Float) → box_flag (P.bounds_in t l u) ≡ con
 flag_is true l u = refl
 flag_is false l u = refl
 
-pub setup_spelled : (o : Options) (x0 l u : List Float) → setup_words (P.setup_in o x0 l u) ≡ leading_words o (length x0) ++ (map to_word x0 ++ side_words o l u)
+pub setup_spelled : (o : Options) (x0 l u : List Float)
+    → setup_words (P.setup_in o x0 l u) ≡ leading_words o (length x0) ++ (map to_word x0 ++ side_words o l u)
 unfolding setup_words
 setup_spelled o x0 l u = rw (flag_is o.bounded l u)
 
@@ -47,7 +45,8 @@ second_at a b k n e h =
 module _ (o : Options) (x0 l u : List Float) where
   pub leading_at : (i : ℕ) → i < 7 → get_or (leading_words o (length x0)) i 0 ≡ get_or (setup_words (P.setup_in o x0 l u)) i 0
   leading_at i h =
-      sym (ap (λ (ws : List ℕ). get_or ws i 0) (setup_spelled o x0 l u) ∙ get_or-append (leading_words o (length x0)) (map to_word x0 ++ side_words o l u) 0 i h)
+      sym (ap (λ (ws : List ℕ). get_or ws i 0) (setup_spelled o x0 l u)
+      ∙ get_or-append (leading_words o (length x0)) (map to_word x0 ++ side_words o l u) 0 i h)
 
   pub start_at : (i : ℕ) (d : Float) → 7 ≤ i → i - 7 < length x0 → to_word (get_or x0 (i - 7) d) ≡ get_or (setup_words (P.setup_in o x0 l u)) i 0
   start_at i d h k =
@@ -94,21 +93,6 @@ module _ (o : Options) (x0 l u : List Float) where
   pub saved_size : Savable o x0 l u → (log : List ℕ) → length (saved_words (P.setup_in o x0 l u) log) ≡ setup_size o.bounded (length x0) + length log
   saved_size s log = length-append (setup_words (P.setup_in o x0 l u)) log ∙ ap (λ (k : ℕ). k + length log) (setup_size_lem s)
 
--- every accepted setup can be saved
-pub accepted_savable : (o : Options) (x0 l u : List Float) → validate (P.setup_in o x0 l u) ≡ None → Savable o x0 l u
-accepted_savable o x0 l u e =
-    let k = accepted_in_limits (P.setup_in o x0 l u) e in
-    record {
-      most = k.coordinates.1;
-      pairs = given_small o.maxcor k.pairs.1;
-      lower = λ b. rw b at k.lower;
-      upper = λ b. rw b at k.upper;
-    }
-  where
-    given_small : (m : Option ℕ) → or_else m 10 ≤ most_pairs → or_else m 0 ≤ 255
-    given_small None h = omega arith
-    given_small (Some m) h = omega arith
-
 -- ---- words one behind the other, with their sums
 
 bytes_one : (a : List ℕ) (w : ℕ) → bytes (a ++ (w ∷ [])) ≡ bytes a ++ bytes_of 8 w
@@ -138,9 +122,10 @@ pub record Writing (ws out₀ : List ℕ) (count : ℕ) (out : List ℕ) (t : Su
   pub written : out ≡ overwritten (bytes (take i ws)) out₀
   pub sums : sums_of t ≡ sums (take i ws)
 
-pub writing_none : (ws out : List ℕ) (count : ℕ) → count ≡ length ws → 8 * count ≤ length out → Writing ws out count out (record { plain = 0; running = 0 }) 0
+pub writing_none : (ws out : List ℕ) (count : ℕ) {t : Sums} → count ≡ length ws → 8 * count ≤ length out → (t.plain ≡ 0) × (t.running ≡ 0)
+    → Writing ws out count out t 0
 unfolding bytes sums_from
-writing_none ws out count e h = record { reach = omega arith; size = e; room = h; long = refl; written = refl; sums = refl }
+writing_none ws out count e h z = record { reach = omega arith; size = e; room = h; long = refl; written = refl; sums = summing_none z }
 
 pub writing_more : {ws out₀ out out' : List ℕ} {count i w : ℕ} {t u : Sums} → Writing ws out₀ count out t i → i < count
     → w ≡ get_or ws i 0 → out' ≡ take (8 * i) out ++ bytes_of 8 w ++ drop (8 * i + 8) out → sums_of u ≡ added w (sums_of t)
@@ -163,11 +148,6 @@ writing_more {ws} {out₀} {out} {out'} {count} {i} {w} {t} {u} h l e f k =
           f ∙ word_behind out₀ out (take i ws) w (8 * i) (omega (arith, size)) fits h.written ∙ ap (λ (v : List ℕ). overwritten (bytes v) out₀) (sym next);
       sums = k ∙ ap (added w) h.sums ∙ sym (sums_one (take i ws) w) ∙ ap sums (sym next);
     }
-
-pub writing_done : {ws out₀ out : List ℕ} {count i : ℕ} {t : Sums} → Writing ws out₀ count out t i → count ≤ i → Summed ws out₀ t out
-writing_done {ws} {out₀} {out} {count} {i} {t} h l =
-    let all : take i ws ≡ ws = take_all i ws (omega (arith, h.size)) in
-    record { written = h.written ∙ ap (λ (v : List ℕ). overwritten (bytes v) out₀) all; sums = h.sums ∙ ap sums all }
 
 -- ---- the trailer, and the whole
 
@@ -229,10 +209,3 @@ record_put ws out m r t count h e room f =
     ∙ put-append out m 0 (bytes ws) (bytes (trailer ws)) (omega (arith, size, four)) first
     ∙ ap (λ (k : ℕ). bytes ws ++ bytes (trailer ws) ++ drop k out) whole
     ∙ ap (λ (b : List ℕ). overwritten b out) (sym (bytes-append ws (trailer ws)))
-
--- with the log's words of replies it is their record
-pub saved_is : (o : Options) (x0 l u : List Float) (rs : List Reply) → bytes (saved_record (P.setup_in o x0 l u) (log_words rs)) ≡ record_bytes (book (P.setup_in o x0 l u) rs)
-unfolding record_bytes record_words
-saved_is o x0 l u rs = refl
-
-pub ruleset laws = (rules, writing_more, writing_done)

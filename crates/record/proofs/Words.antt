@@ -1,5 +1,6 @@
 -- Laws of words and their bytes, and of the sums over words. Assumes nothing.
-use Rattle.std.proofs.Common.{◌≡◌, ℕ, zero, suc, ◌+◌, ◌*◌, ◌/◌, ◌≤◌, List, [], ◌∷◌, ◌++◌, map, length, get_or, take, drop, set, sym, refl, ap, ◌∙◌, arith, length-append, drop-cons, drop-drop}
+use Rattle.std.proofs.Common.{◌≡◌, ℕ, zero, suc, ◌+◌, ◌*◌, ◌/◌, ◌≤◌, List, [], ◌∷◌, ◌++◌, map, length, get_or, take, drop, set, sym, refl, ap, ap₂, ◌∙◌}
+use Rattle.std.proofs.Common.{arith, length-append, drop-cons, drop-drop}
 use native.Mathlib.Numerals.{towards_suc}
 use lib.Seq.{sets, sets-eq, length-sets}
 use borrow.Rule.Slice.PartMut.{put_mid}
@@ -7,11 +8,14 @@ use Rattle.std.specs.Int.{w64, from_le_bytes, to_le_bytes}
 use Rattle.std.proofs.lemmas.Slice.{put_mid-paste}
 use Rattle.std.proofs.lemmas.List.{map-append}
 use Rattle.std.specs.List.{range_with_len}
+use Rattle.record.specs.declared.Sums as Code
+use Rattle.record.specs.Records.{sums_of}
 use Rattle.definition.specs.Record.{Sums, added, sums, sums_from, bytes_of, number_of, words_of}
 
 -- ---- a word from bytes
 
-drop_four : (l : List ℕ) (at : ℕ) → at + 4 ≤ length l → drop at l ≡ get_or l at 0 ∷ get_or l (at + 1) 0 ∷ get_or l (at + 2) 0 ∷ get_or l (at + 3) 0 ∷ drop (at + 4) l
+drop_four : (l : List ℕ) (at : ℕ) → at + 4 ≤ length l
+    → drop at l ≡ get_or l at 0 ∷ get_or l (at + 1) 0 ∷ get_or l (at + 2) 0 ∷ get_or l (at + 3) 0 ∷ drop (at + 4) l
 drop_four l at h =
     simp towards_suc
     (drop-cons l at 0 (omega arith)
@@ -82,24 +86,24 @@ pub sums_one : (a : List ℕ) (w : ℕ) → sums (a ++ (w ∷ [])) ≡ added w (
 unfolding sums_from
 sums_one a w = sums-append a (w ∷ []) (record { plain = 0; running = 0 })
 
--- the word of eight bytes, number i from `at` on
-abbrev pub numbered : List ℕ → ℕ → ℕ → ℕ
-numbered bs at i = number_of (take 8 (drop (at + 8 * i) bs))
+-- the word of eight bytes, number i
+abbrev pub numbered : List ℕ → ℕ → ℕ
+numbered bs i = number_of (take 8 (drop (8 * i) bs))
 
-pub summing_more : (bs : List ℕ) (at : ℕ) (is : List ℕ) (i : ℕ) {t u : Sums} → t ≡ sums (map (numbered bs at) is) → u ≡ added (numbered bs at i) t
-    → u ≡ sums (map (numbered bs at) (is ++ (i ∷ [])))
-summing_more bs at is i h e =
-    e ∙ ap (added (numbered bs at i)) h ∙ sym (sums_one (map (numbered bs at) is) (numbered bs at i)) ∙ ap sums (sym (map-append (numbered bs at) is (i ∷ [])))
+pub summing_more : (bs : List ℕ) (is : List ℕ) (i : ℕ) {t u : Sums} → t ≡ sums (map (numbered bs) is) → u ≡ added (numbered bs i) t
+    → u ≡ sums (map (numbered bs) (is ++ (i ∷ [])))
+summing_more bs is i h e =
+    e ∙ ap (added (numbered bs i)) h ∙ sym (sums_one (map (numbered bs) is) (numbered bs i)) ∙ ap sums (sym (map-append (numbered bs) is (i ∷ [])))
 
-pub numbered_words : (bs : List ℕ) (at i n : ℕ) → map (numbered bs at) (range_with_len i n) ≡ words_of n (drop (at + 8 * i) bs)
+pub numbered_words : (bs : List ℕ) (i n : ℕ) → map (numbered bs) (range_with_len i n) ≡ words_of n (drop (8 * i) bs)
 unfolding words_of
-numbered_words bs at i zero = refl
-numbered_words bs at i (suc n) =
-    let ahead : at + 8 * i + 8 ≡ at + 8 * (i + 1) = omega arith in
-    ap (λ (ws : List ℕ). numbered bs at i ∷ ws)
-    (numbered_words bs at (i + 1) n ∙ ap (words_of n) (sym (drop-drop 8 (at + 8 * i) bs ∙ ap (λ (k : ℕ). drop k bs) ahead)))
+numbered_words bs i zero = refl
+numbered_words bs i (suc n) =
+    let ahead : 8 * i + 8 ≡ 8 * (i + 1) = omega arith in
+    ap (λ (ws : List ℕ). numbered bs i ∷ ws)
+    (numbered_words bs (i + 1) n ∙ ap (words_of n) (sym (drop-drop 8 (8 * i) bs ∙ ap (λ (k : ℕ). drop k bs) ahead)))
 
 -- no word yet
-pub summing_none : record { plain = 0; running = 0 } ≡ sums []
+pub summing_none : {t : Code.Sums} → (t.plain ≡ 0) × (t.running ≡ 0) → sums_of t ≡ sums []
 unfolding sums_from
-summing_none = refl
+summing_none {t} h = ap₂ (λ (p r : ℕ). record { plain = p; running = r }) h.0 h.1

@@ -1,5 +1,6 @@
 -- What reading a record answers, over the definition's `read_record` and the structs of the code; how long setups and entries are.
-use Rattle.std.specs.Prelude.{◌≡◌, ℕ, ◌+◌, ◌-◌, ◌*◌, ◌≤◌, Bool, true, false, cond, not, ◌&&◌, List, [], ◌∷◌, ◌++◌, map, length, take, drop, replicate, ◌==◌, nat_le, nat_lt, slice_index, slice_index_or, Float}
+use Rattle.std.specs.Prelude.{◌≡◌, ℕ, ◌+◌, ◌-◌, ◌*◌, ◌/◌, ◌≤◌, Bool, true, cond, not, ◌&&◌, List, [], ◌∷◌, ◌++◌, map, length, take, drop, replicate}
+use Rattle.std.specs.Prelude.{◌==◌, nat_le, nat_lt, slice_index, slice_index_or, Float}
 use Rattle.std.specs.Prelude.{None, Result, Ok, Err}
 use Rattle.definition.specs.Number.{to_float, zero64}
 use Rattle.definition.specs.Problem as D
@@ -9,6 +10,7 @@ use Rattle.definition.specs.Record as R
 use Rattle.definition.specs.Record.{words_of, framed, same_sums, malformed, n_in, maxcor_in, has_box, scheme_in, setup_length, floats_at}
 use Rattle.definition.specs.Record.{float_given, count_given, optional_float, scheme_flag, Reading, read_record, reading_of}
 use Rattle.problem.specs.declared.Options.{Options}
+use Rattle.problem.specs.declared.Setup.{Setup}
 use Rattle.problem.specs.Setups as P
 use Rattle.problem.specs.declared.Refusal.{Refusal}
 use Rattle.problem.specs.Setups.{scheme_of, refusal_of}
@@ -41,35 +43,36 @@ trailer_in bs = words_of 4 (drop (length bs - 32) bs)
 abbrev pub framed_in : List ℕ → Bool
 framed_in bs = not (nat_lt (length bs) 32) && framed (length bs) (trailer_in bs)
 
+-- the words that bytes are, eight to a word
+abbrev pub all_words : List ℕ → List ℕ
+all_words bs = words_of (length bs / 8) bs
+
 -- the words before the trailer
-abbrev pub words_in : List ℕ → Frame → List ℕ
-words_in bs frame = words_of frame.words (drop frame.at bs)
+abbrev pub words_in : Frame → List ℕ
+words_in frame = all_words frame.bytes.now
 
--- from a byte, `count` words, by the first of them
-abbrev pub frame_from : ℕ → ℕ → ℕ → Frame
-frame_from at count word = record { at = at; words = count; n = n_in word; setup = setup_length word }
-
-unfoldable pub frame_in : List ℕ → Frame
-frame_in bs =
+-- the bytes of as many words ahead of the trailer as it says
+abbrev pub bytes_ahead : List ℕ → List ℕ
+bytes_ahead bs =
     let count = slice_index_or (trailer_in bs) 3 0 in
-    let at = length bs - 32 - 8 * count in
-    frame_from at count (slice_index (words_of count (drop at bs)) 0)
+    take (8 * count) (drop (length bs - 32 - 8 * count) bs)
+
+-- the coordinates and the words of the setup are those of word 0
+pub record Counted (frame : Frame) : Type 0 where
+  pub n : frame.n ≡ n_in (slice_index (words_in frame) 0)
+  pub setup : frame.setup ≡ setup_length (slice_index (words_in frame) 0)
 
 -- the frame is that of the words ahead of the last four
 pub record Placed (bs : List ℕ) (frame : Frame) : Type 0 where
-  pub within : frame.at + 8 * frame.words + 32 ≡ length bs
-  pub n : frame.n ≡ n_in (slice_index (words_in bs frame) 0)
-  pub setup : frame.setup ≡ setup_length (slice_index (words_in bs frame) 0)
+  pub bytes : frame.bytes.now ≡ bytes_ahead bs
+  pub counted : Counted frame
 
 abbrev pub sums_agree : List ℕ → Frame → Bool
-sums_agree bs frame = same_sums (words_in bs frame) (slice_index (trailer_in bs) 0) (slice_index (trailer_in bs) 1)
+sums_agree bs frame = same_sums (words_in frame) (slice_index (trailer_in bs) 0) (slice_index (trailer_in bs) 1)
 
--- trailer, sums and form are right
-pub record Formed (bs : List ℕ) (f : Frame) : Type 0 where
-  pub framed : framed_in bs ≡ true
-  pub frame : f ≡ frame_in bs
-  pub sums : sums_agree bs f ≡ true
-  pub form : malformed (words_in bs f) ≡ false
+-- the bytes of the words behind the setup's
+abbrev pub entry_bytes : Frame → List ℕ
+entry_bytes frame = drop (8 * frame.setup) frame.bytes.now
 
 -- ---- the setup
 
@@ -84,9 +87,13 @@ pub record OptionsIn (ws : List ℕ) (options : Options) : Type 0 where
   pub eps : options.eps ≡ float_given (slice_index ws 6)
   pub scheme : scheme_of options.scheme ≡ scheme_in (slice_index ws 0)
 
--- the floats of words, in an array of 768
+-- how many floats three vectors have, of as many coordinates as a byte says
+abbrev pub most_floats : ℕ
+most_floats = 768
+
+-- the floats of words, in an array of as many
 unfoldable pub floats_of : List ℕ → List Float
-floats_of ws = map to_float ws ++ replicate (768 - length ws) zero64
+floats_of ws = map to_float ws ++ replicate (most_floats - length ws) zero64
 
 -- the setup by options and a record's words
 abbrev pub setup_by : List ℕ → Options → ℕ → D.Setup
@@ -104,19 +111,23 @@ lengths area room = record { area = area; log = room }
 -- the setup is accepted and has its area, and the entries alone decide
 pub record Opens (bs : List ℕ) (area : ℕ) (o : Options) (f : Frame) : Type 0 where
   pub placed : Placed bs f
-  pub whole : f.setup ≤ f.words
+  pub whole : f.setup ≤ length (words_in f)
   pub most : f.n ≤ most_coordinates
-  pub options : OptionsIn (words_in bs f) o
-  pub same : R.setup_in (words_in bs f) ≡ setup_by (words_in bs f) o f.n
-  pub accepted : validate (R.setup_in (words_in bs f)) ≡ None
-  pub room : area_needed (R.setup_in (words_in bs f)) ≤ area
+  pub options : OptionsIn (words_in f) o
+  pub same : R.setup_in (words_in f) ≡ setup_by (words_in f) o f.n
+  pub accepted : validate (R.setup_in (words_in f)) ≡ None
+  pub room : area_needed (R.setup_in (words_in f)) ≤ area
   pub reads : (room : ℕ)
-      → read_record (lengths area room) bs ≡ reading_of (R.setup_in (words_in bs f)) (entries_of (R.setup_in (words_in bs f)) room (drop f.setup (words_in bs f)))
+      → read_record (lengths area room) bs ≡ reading_of (R.setup_in (words_in f)) (entries_of (R.setup_in (words_in f)) room (drop f.setup (words_in f)))
 
 -- refused as the definition refuses, whatever the room in the log; or the setup stands
 abbrev pub Parsing : List ℕ → ℕ → Result Parsed Refusal → Type 0
 Parsing bs area (Err refusal) = (room : ℕ) → read_record (lengths area room) bs ≡ Reading.refused (refusal_of refusal)
 Parsing bs area (Ok parsed) = Opens bs area parsed.options parsed.frame
+
+-- what the checks of some record found
+abbrev pub HasOpened : ℕ → Parsed → Type 0
+HasOpened area parsed = (bs : List ℕ) × Opens bs area parsed.options parsed.frame
 
 -- ---- writing
 
@@ -142,6 +153,13 @@ pub record Savable (options : Options) (x0 l u : List Float) : Type 0 where
   pub pairs : or_else options.maxcor 0 ≤ 255
   pub lower : options.bounded ≡ true → length l ≡ length x0
   pub upper : options.bounded ≡ true → length u ≡ length x0
+
+-- a lent setup that keeps to it, and how many words it and a log are
+abbrev pub CanSave : Setup → Type 0
+CanSave setup = Savable setup.options setup.x0.now setup.lower.now setup.upper.now
+
+abbrev pub saved_count : Setup → List ℕ → ℕ
+saved_count setup log = setup_size setup.options.bounded (length setup.x0.now) + length log
 
 -- the words before the trailer, and all of a record's
 abbrev pub saved_words : D.Setup → List ℕ → List ℕ

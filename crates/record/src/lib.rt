@@ -1,16 +1,17 @@
 // The record: its words as bytes, both sums, the setup in words; reading up to the entries, with every refusal in order, and writing.
 #![tactic(auto)]
 
-ghost use Rattle.std.specs.Prelude.{◌≡◌, ◌+◌, ◌-◌, ◌*◌, ◌<◌, ◌≤◌, true, ◌++◌, map, length, take, drop, replicate, if◌then◌else◌, slice_index, slice_range};
+ghost use Rattle.std.specs.Prelude.{◌≡◌, ℕ, ◌+◌, ◌-◌, ◌*◌, ◌<◌, ◌≤◌, true, ◌++◌, map, length, take, drop, replicate, if◌then◌else◌, slice_index, slice_range};
+ghost use Rattle.std.specs.Prelude.{nat_le};
 ghost use Rattle.definition.specs.Number.{to_word, zero64};
-ghost use Rattle.definition.specs.Problem.{validate, or_else};
+ghost use Rattle.definition.specs.Problem.{validate, ◌then◌, or_else};
 ghost use Rattle.definition.specs.Record.{number_of, bytes_of, words_of, sums as sums_over, added as added_to};
-ghost use Rattle.definition.specs.Record.{float_given, count_given, has_box, setup_length as setup_length_of, scheme_in, setup_in, malformed};
+ghost use Rattle.definition.specs.Record.{float_given, count_given, has_box, scheme_in, setup_in, malformed, check_area};
 ghost use Rattle.definition.specs.Record.{optional_float, scheme_flag, setup_words, bytes};
 ghost use Rattle.problem.specs.Setups.{scheme_of, check_of, setup_of};
-ghost use Rattle.record.specs.Records.{sums_of, setup_size, entry_size, framed_in, frame_in, words_in, sums_agree, Placed};
-ghost use Rattle.record.specs.Records.{Formed, OptionsIn, floats_of, setup_from, Parsing};
-ghost use Rattle.record.specs.Records.{first_word, leading_words, Savable, saved_words, saved_record, Summed, trailer_of, overwritten};
+ghost use Rattle.record.specs.Records.{sums_of, setup_size, entry_size, framed_in, all_words, words_in, entry_bytes, sums_agree, Counted, Placed};
+ghost use Rattle.record.specs.Records.{OptionsIn, most_floats, floats_of, setup_from, Parsing};
+ghost use Rattle.record.specs.Records.{first_word, leading_words, CanSave, saved_count, saved_words, saved_record, Summed, trailer_of, overwritten};
 
 use problem::{Options, Refusal, Scheme, Setup};
 
@@ -22,6 +23,9 @@ const SPARE: u64 = 0x4_0000;
 
 // The word of a float that is absent.
 const ABSENT: u64 = 0x7FF8_0000_0000_0000;
+
+// The floats of three vectors of as many coordinates as a byte says.
+const FLOATS: usize = 768;
 
 // ---- words and bytes
 
@@ -44,49 +48,38 @@ pub fn put_word(out: &mut [u8], at: usize, word: u64)
 // ---- the sums
 
 // The sum of words, and the sum of its running sums, each modulo 2^64.
-#[derive(Clone, Copy)]
+#[derive(Clone, Copy, Default)]
 pub struct Sums {
     pub plain: u64,
     pub running: u64,
 }
 
-// One more word.
-fn added(sums: Sums, word: u64) -> Sums
-    ensures { sums_of result ≡ added_to word (sums_of sums) }
-{
-    let plain = sums.plain.wrapping_add(word);
-    let running = sums.running.wrapping_add(plain);
-    Sums { plain, running }
+impl Sums {
+    // One more word.
+    fn added(self, word: u64) -> Sums
+        ensures { sums_of result ≡ added_to word (sums_of self) }
+    {
+        let plain = self.plain.wrapping_add(word);
+        let running = self.running.wrapping_add(plain);
+        Sums { plain, running }
+    }
 }
 
-// The sums of `count` words from the byte `at` on.
-fn sums_at(input: &[u8], at: usize, count: usize) -> Sums
-    requires { at + 8 * count ≤ length input.now }
-    ensures { sums_of result ≡ sums_over (words_of count (drop at input.now)) }
+// The sums of the words that some bytes are.
+fn sums_in(bytes: &[u8]) -> Sums
+    ensures { sums_of result ≡ sums_over (all_words bytes.now) }
 {
-    let none = Sums {
-        plain: 0,
-        running: 0,
-    };
-    (0..count).fold(none, |sums, i| added(sums, word_at(input, at + 8 * i)))
+    (0..bytes.len() / 8).fold(Sums::default(), |sums, k| sums.added(word_at(bytes, 8 * k)))
 }
 
 // ---- lengths
 
 // The words of a setup of n coordinates, with or without a box.
-fn setup_size(bounded: bool, n: usize) -> usize
+pub fn setup_words(bounded: bool, n: usize) -> usize
     requires { n ≤ 65536 }
     ensures { result ≡ setup_size bounded n }
 {
     7 + if bounded { 3 * n } else { n }
-}
-
-// The words of a setup of n coordinates.
-pub fn setup_words(options: Options, n: usize) -> usize
-    requires { n ≤ 65536 }
-    ensures { result ≡ setup_size options.bounded n }
-{
-    setup_size(options.bounded, n)
 }
 
 // The words of an entry of a kind, where there are n coordinates; none where the kind is unknown.
@@ -103,22 +96,28 @@ pub fn entry_length(kind: u64, n: usize) -> Option<usize>
     }
 }
 
+// Whether a log of `room` words, of which `words` are taken, has room for `length` more.
+pub fn has_room(words: usize, length: usize, room: usize) -> bool
+    ensures { result ≡ nat_le (words + length) room }
+{
+    words <= room && length <= room - words
+}
+
 // ---- reading
 
-// Where a record stands in its bytes: the byte of word 0, the words before the trailer, the coordinates and the words of the setup.
+// A record that is framed: the bytes of its words ahead of the trailer, the coordinates and the words of the setup.
 #[derive(Clone, Copy)]
-pub struct Frame {
-    pub at: usize,
-    pub words: usize,
+pub struct Frame<'a> {
+    pub bytes: &'a [u8],
     pub n: usize,
     pub setup: usize,
 }
 
 // What the checks ahead of the entries find.
 #[derive(Clone, Copy)]
-pub struct Parsed {
+pub struct Parsed<'a> {
     pub options: Options,
-    pub frame: Frame,
+    pub frame: Frame<'a>,
 }
 
 // At least a trailer, a known version, and as many words as the trailer says.
@@ -136,23 +135,15 @@ fn is_framed(input: &[u8]) -> bool
     count <= (size - 32) / 8
 }
 
-// Word i of `words` words from the byte `at` on, and 0 past the last.
-fn word_of(input: &[u8], at: usize, words: usize, i: usize) -> u64
-    requires { at + 8 * words ≤ length input.now }
-    ensures { result ≡ slice_index (words_of words (drop at input.now)) i }
+// Word i of the words that some bytes are, and 0 past the last.
+pub fn word_of(bytes: &[u8], i: usize) -> u64
+    ensures { result ≡ slice_index (all_words bytes.now) i }
 {
-    if i < words {
-        word_at(input, at + 8 * i)
+    if i < bytes.len() / 8 {
+        word_at(bytes, 8 * i)
     } else {
         0
     }
-}
-
-// The words of a setup, from its first.
-fn setup_length(word: u64) -> usize
-    ensures { result ≡ setup_length_of word }
-{
-    setup_size(has_box(word), (word % 256) as usize)
 }
 
 // Whether word 0 of a setup says that there is a box.
@@ -163,39 +154,30 @@ fn has_box(word: u64) -> bool
 }
 
 // Where the record stands, by its trailer.
-fn frame_of(input: &[u8]) -> Frame
+fn frame_of(input: &[u8]) -> Frame<'_>
     requires { framed_in input.now ≡ true }
-    ensures { result ≡ frame_in input.now }
+    ensures { Placed input.now result }
 {
-    let size = input.len();
-    let words = word_at(input, size - 8) as usize;
-    let at = size - 32 - 8 * words;
-    let first = word_of(input, at, words, 0);
+    let end = input.len() - 32;
+    let count = word_at(input, end + 24) as usize;
+    let bytes = &input[end - 8 * count..end];
+    let first = word_of(bytes, 0);
     let n = (first % 256) as usize;
     Frame {
-        at,
-        words,
+        bytes,
         n,
-        setup: setup_length(first),
+        setup: setup_words(has_box(first), n),
     }
 }
 
 // Both sums are the trailer's.
 fn sums_agree(input: &[u8], frame: Frame) -> bool
-    requires { frame.at + 8 * frame.words + 32 ≡ length input.now }
-    ensures { result ≡ sums_agree input.now frame }
+    requires { 32 ≤ length input.now }
+    ensures { result ≡ sums_agree input.now frame.entry }
 {
-    let sums = sums_at(input, frame.at, frame.words);
-    let end = frame.at + 8 * frame.words;
+    let sums = sums_in(frame.bytes);
+    let end = input.len() - 32;
     sums.plain == word_at(input, end) && sums.running == word_at(input, end + 8)
-}
-
-// Fewer words than the setup's, or spare bits in its first.
-fn is_malformed(input: &[u8], frame: Frame) -> bool
-    requires { Placed input.now frame }
-    ensures { result ≡ malformed (words_in input.now frame) }
-{
-    frame.words < frame.setup || SPARE <= word_of(input, frame.at, frame.words, 0)
 }
 
 // A float that may be absent.
@@ -227,61 +209,86 @@ fn scheme_in(word: u64) -> Scheme
     }
 }
 
-// Word i of the record, a float that may be absent.
-fn float_of(input: &[u8], frame: Frame, i: usize) -> Option<f64>
-    requires { Placed input.now frame }
-    ensures { result ≡ float_given (slice_index (words_in input.now frame) i) }
-{
-    float_given(word_of(input, frame.at, frame.words, i))
-}
-
-// Word i of the record, a count that may be absent.
-fn count_of(input: &[u8], frame: Frame, i: usize) -> Option<usize>
-    requires { Placed input.now frame }
-    ensures { result ≡ count_given (slice_index (words_in input.now frame) i) }
-{
-    count_given(word_of(input, frame.at, frame.words, i))
-}
-
-// The setup but for its vectors.
-fn options_of(input: &[u8], frame: Frame) -> Options
-    requires { Placed input.now frame }
-    ensures { OptionsIn (words_in input.now frame) result }
-{
-    let first = word_of(input, frame.at, frame.words, 0);
-    Options {
-        bounded: has_box(first),
-        maxiter: count_of(input, frame, 1),
-        maxfev: count_of(input, frame, 2),
-        tol: float_of(input, frame, 3),
-        ftol: float_of(input, frame, 4),
-        gtol: float_of(input, frame, 5),
-        maxcor: count_given(first / 256 % 256),
-        eps: float_of(input, frame, 6),
-        scheme: scheme_in(first),
-    }
-}
-
 // The floats of `count` words from the byte `at` on, then zeros.
 // Kept: `array::from_fn` asks at each of the 768 whether it is a word's, and takes 647 ns for 9 words where this loop takes 54.
-fn floats_at(input: &[u8], at: usize, count: usize) -> [f64; 768]
-    requires { (at + 8 * count ≤ length input.now) × (count ≤ 768) }
-    ensures { result ≡ floats_of (words_of count (drop at input.now)) }
+fn floats_at(bytes: &[u8], at: usize, count: usize) -> [f64; FLOATS]
+    requires { (at + 8 * count ≤ length bytes.now) × (count ≤ most_floats) }
+    ensures { result ≡ floats_of (words_of count (drop at bytes.now)) }
 {
-    let mut floats = [0.0; 768];
+    let mut floats = [0.0; FLOATS];
     for i in 0..count {
-        floats[i] = float::word_to_float(word_at(input, at + 8 * i));
+        floats[i] = float::word_to_float(word_at(bytes, at + 8 * i));
     }
     floats
 }
 
-// The vectors of the setup: the start, and with a box the lower and the upper bounds behind it; then zeros.
-// Kept: fixed memory, of which the checks of a setup read three parts of n.
-pub fn vectors(input: &[u8], frame: Frame) -> [f64; 768]
-    requires { (frame.at + 8 * frame.words ≤ length input.now) × (7 ≤ frame.setup) × (frame.setup ≤ frame.words) × (frame.setup ≤ 775) }
-    ensures { result ≡ floats_of (slice_range (words_in input.now frame) 7 frame.setup) }
-{
-    floats_at(input, frame.at + 56, frame.setup - 7)
+impl<'a> Frame<'a> {
+    // How many words there are.
+    fn count(self) -> usize
+        ensures { result ≡ length (words_in self.entry) }
+    {
+        self.bytes.len() / 8
+    }
+
+    // Word i, and 0 past the last.
+    fn word(self, i: usize) -> u64
+        ensures { result ≡ slice_index (words_in self.entry) i }
+    {
+        word_of(self.bytes, i)
+    }
+
+    // Fewer words than the setup's, or spare bits in its first.
+    fn is_malformed(self) -> bool
+        requires { Counted self }
+        ensures { result ≡ malformed (words_in self.entry) }
+    {
+        self.count() < self.setup || SPARE <= self.word(0)
+    }
+
+    // The setup but for its vectors.
+    fn options(self) -> Options
+        ensures { OptionsIn (words_in self.entry) result }
+    {
+        let first = self.word(0);
+        Options {
+            bounded: has_box(first),
+            maxiter: count_given(self.word(1)),
+            maxfev: count_given(self.word(2)),
+            tol: float_given(self.word(3)),
+            ftol: float_given(self.word(4)),
+            gtol: float_given(self.word(5)),
+            maxcor: count_given(first / 256 % 256),
+            eps: float_given(self.word(6)),
+            scheme: scheme_in(first),
+        }
+    }
+
+    // The vectors of the setup: the start, and with a box the lower and the upper bounds behind it; then zeros.
+    // Kept: fixed memory, of which the checks of a setup read three parts of n.
+    pub fn vectors(self) -> [f64; FLOATS]
+        requires { (7 ≤ self.setup) × (self.setup ≤ length (words_in self)) × (self.setup ≤ 7 + most_floats) }
+        ensures { result ≡ floats_of (slice_range (words_in self.entry) 7 self.entry.setup) }
+    {
+        floats_at(self.bytes, 56, self.setup - 7)
+    }
+
+    // The bytes of the words behind the setup's.
+    pub fn entries(self) -> &'a [u8]
+        requires { 8 * self.setup ≤ length self.bytes.now }
+        ensures { result.now ≡ entry_bytes self.entry }
+    {
+        &self.bytes[8 * self.setup..]
+    }
+
+    // What is wrong with the setup, and then with an area of `available` words.
+    fn check_setup(self, options: Options, available: usize) -> Result<(), Refusal>
+        requires { Counted self × (self.setup ≤ length (words_in self)) × OptionsIn (words_in self) options }
+        ensures { let s = setup_in (words_in self.entry) in
+            (l : ℕ) → check_of result ≡ (validate s then check_area (record { area = available; log = l }) s) }
+    {
+        let vectors = self.vectors();
+        check_start(setup_from(options, &vectors, self.n), available)
+    }
 }
 
 // The setup of options and three vectors of n words one behind the other.
@@ -298,32 +305,22 @@ pub fn setup_from(options: Options, vectors: &[f64], n: usize) -> Setup<'_>
     }
 }
 
-// The setup's refusals.
-fn check_rows(input: &[u8], frame: Frame, options: Options) -> Result<(), Refusal>
-    requires { Placed input.now frame × (frame.setup ≤ frame.words) × OptionsIn (words_in input.now frame) options }
-    ensures { check_of result ≡ validate (setup_in (words_in input.now frame)) }
+// What is wrong with a setup, and then with an area of `size` words.
+pub fn check_start(setup: Setup, size: usize) -> Result<(), Refusal>
+    ensures { let s = setup_of setup.entry in
+        (l : ℕ) → check_of result ≡ (validate s then check_area (record { area = size; log = l }) s) }
 {
-    let vectors = vectors(input, frame);
-    setup_from(options, &vectors, frame.n).validate()
-}
-
-// A record whose sums and form are right: the setup's refusals, then the area.
-fn check_setup(input: &[u8], frame: Frame, available: usize) -> Result<Parsed, Refusal>
-    requires { Formed input.now frame }
-    ensures { Parsing input.now available result }
-{
-    let options = options_of(input, frame);
-    check_rows(input, frame, options)?;
-    let needed = area::words(frame.n, options.places());
-    if available < needed {
+    setup.validate()?;
+    let needed = area::words(setup.x0.len(), setup.options.places());
+    if size < needed {
         return Err(Refusal::AreaShort { needed });
     }
-    Ok(Parsed { options, frame })
+    Ok(())
 }
 
 // The checks of a record ahead of its entries, for a working area of `available` words: of any bytes, the first refusal, or the setup and
 // where it stands.
-pub fn check(input: &[u8], available: usize) -> Result<Parsed, Refusal>
+pub fn check(input: &[u8], available: usize) -> Result<Parsed<'_>, Refusal>
     ensures { Parsing input.now available result }
 {
     if !is_framed(input) {
@@ -333,10 +330,12 @@ pub fn check(input: &[u8], available: usize) -> Result<Parsed, Refusal>
     if !sums_agree(input, frame) {
         return Err(Refusal::SumsDiffer);
     }
-    if is_malformed(input, frame) {
+    if frame.is_malformed() {
         return Err(Refusal::Malformed);
     }
-    check_setup(input, frame, available)
+    let options = frame.options();
+    frame.check_setup(options, available)?;
+    Ok(Parsed { options, frame })
 }
 
 // ---- writing
@@ -400,8 +399,9 @@ fn bound_word(lower: &[f64], upper: &[f64], i: usize) -> u64
 }
 
 // Word i of the setup.
+// Kept: an index. Over the chain of the words, enumerated, the check that `8 * i` fits stops at the prover's limit of steps.
 fn setup_word(setup: Setup, i: usize) -> u64
-    requires { Savable setup.options setup.x0.now setup.lower.now setup.upper.now
+    requires { CanSave setup
         × (i < setup_size setup.options.bounded (length setup.x0.now)) }
     ensures { result ≡ slice_index (setup_words (setup_of setup.entry)) i }
 {
@@ -417,11 +417,11 @@ fn setup_word(setup: Setup, i: usize) -> u64
 
 // Word i of the setup and the log.
 fn saved_word(setup: Setup, log: &[u64], i: usize) -> u64
-    requires { Savable setup.options setup.x0.now setup.lower.now setup.upper.now
-        × (i < setup_size setup.options.bounded (length setup.x0.now) + length log.now) }
+    requires { CanSave setup
+        × (i < saved_count setup log.now) }
     ensures { result ≡ slice_index (saved_words (setup_of setup.entry) log.now) i }
 {
-    let size = setup_words(setup.options, setup.x0.len());
+    let size = setup_words(setup.options.bounded, setup.x0.len());
     if i < size {
         setup_word(setup, i)
     } else {
@@ -432,19 +432,16 @@ fn saved_word(setup: Setup, log: &[u64], i: usize) -> u64
 // The setup and the log from the first byte on, and their sums.
 // Kept: a fold over the words has no proof, since its closure would change the output, whose length each write needs.
 fn put_words(setup: Setup, log: &[u64], out: &mut [u8]) -> Sums
-    requires { Savable setup.options setup.x0.now setup.lower.now setup.upper.now
-        × (8 * (setup_size setup.options.bounded (length setup.x0.now) + length log.now) ≤ length out.old) }
+    requires { CanSave setup
+        × (8 * saved_count setup log.now ≤ length out.old) }
     ensures { Summed (saved_words (setup_of setup.entry) log.now) out.old result out.new }
 {
-    let count = setup_words(setup.options, setup.x0.len()) + log.len();
-    let mut sums = Sums {
-        plain: 0,
-        running: 0,
-    };
+    let count = setup_words(setup.options.bounded, setup.x0.len()) + log.len();
+    let mut sums = Sums::default();
     for i in 0..count {
         let word = saved_word(setup, log, i);
         put_word(out, 8 * i, word);
-        sums = added(sums, word);
+        sums = sums.added(word);
     }
     sums
 }
@@ -463,11 +460,11 @@ fn put_trailer(out: &mut [u8], sums: Sums, count: usize)
 
 // The record of a setup and a log, from the first byte of `out` on; what is behind it stays.
 pub fn write(setup: Setup, log: &[u64], out: &mut [u8])
-    requires { Savable setup.options setup.x0.now setup.lower.now setup.upper.now
-        × (8 * (setup_size setup.options.bounded (length setup.x0.now) + length log.now + 4) ≤ length out.old) }
+    requires { CanSave setup
+        × (8 * (saved_count setup log.now + 4) ≤ length out.old) }
     ensures { out.new ≡ overwritten (bytes (saved_record (setup_of setup.entry) log.now)) out.old }
 {
     let sums = put_words(setup, log, out);
-    let count = setup_words(setup.options, setup.x0.len()) + log.len();
+    let count = setup_words(setup.options.bounded, setup.x0.len()) + log.len();
     put_trailer(out, sums, count);
 }

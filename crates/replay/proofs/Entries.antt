@@ -157,9 +157,6 @@ module _ (room : ℕ) (ws : List ℕ) (rs : List M.Reply) (m : M.Machine) (at : 
   next_is : at < length ws → next_entry room (drop at ws) rs m ≡ admit room (drop (at + 1) ws) rs m entry
   next_is h = ap (λ (l : List ℕ). next_entry room l rs m) (at_word ws at h)
 
-  pub next_bad : at < length ws → entry ≡ None → next_entry room (drop at ws) rs m ≡ Entries.refused_at 17
-  next_bad h e = next_is h ∙ ap (admit room (drop (at + 1) ws) rs m) e
-
   module _ (r : Reply) (l : ℕ) (h : Reads m.terms.n ws at r l) (here : at < length ws) where
     abbrev reply : M.Reply
     reply = replied r (gradient_at m.terms.n ws at)

@@ -1,4 +1,3 @@
-pub mod Words
 pub mod Entries
 pub mod Laws
 pub mod Runs

@@ -35,26 +35,6 @@ pub struct Entry {
 
 // ---- words
 
-// Word i of a record.
-fn record_word(input: &[u8], i: usize) -> u64
-    requires { i < length input.now / 8 }
-    ensures { result ≡ number_of (take 8 (drop (8 * i) input.now)) }
-{
-    record::word_at(input, 8 * i)
-}
-
-// n words of a record from `from` on, as the trial's gradient.
-// Kept: an index. Words are made of bytes, and what `iter_mut().zip(..)` leaves in a slice is not known to a proof.
-fn store_record(area: &mut [f64], n: usize, input: &[u8], from: usize)
-    requires { (first_pair * n ≤ length area.old) × (from + n ≤ length input.now / 8) }
-    ensures { view area.new n
-        ≡ upd (view area.old n) vector_trial_gradient (map to_float (words_of n (drop (8 * from) input.now))) }
-{
-    for i in 0..n {
-        area[area::TRIAL_GRADIENT * n + i] = float::word_to_float(record_word(input, from + i));
-    }
-}
-
 impl Source<'_> {
     // How many words there are.
     fn words(self) -> usize
@@ -72,19 +52,7 @@ impl Source<'_> {
     {
         match self {
             Source::Log(log) => log[i],
-            Source::Record(input) => record_word(input, i),
-        }
-    }
-
-    // n words from `from` on, as the trial's gradient.
-    fn store_gradient(self, area: &mut [f64], n: usize, from: usize)
-        requires { (first_pair * n ≤ length area.old) × (from + n ≤ length (source_words self)) }
-        ensures { view area.new n
-            ≡ upd (view area.old n) vector_trial_gradient (map to_float (take n (drop from (source_words self.entry)))) }
-    {
-        match self {
-            Source::Log(log) => area::store_gradient(area, n, log, from),
-            Source::Record(input) => store_record(area, n, input, from),
+            Source::Record(input) => record::word_of(input, i),
         }
     }
 }
@@ -109,13 +77,6 @@ fn entry_at(n: usize, source: Source, at: usize) -> Option<Entry>
     Some(Entry { reply, length })
 }
 
-// Whether a log of `room` words, of which `words` are taken, has room for `length` more.
-fn has_room(words: usize, length: usize, room: usize) -> bool
-    ensures { result ≡ leb (words + length) room }
-{
-    words <= room && length <= room - words
-}
-
 fn is_due(fit: Fit, reply: Reply) -> bool
     ensures { result ≡ is_due fit reply }
 {
@@ -129,7 +90,7 @@ fn check_admitted(fit: Fit, size: usize, entry: Entry, room: usize) -> Result<()
     if !held::is_ready(fit, size) || !is_due(fit, entry.reply) {
         return Err(Refusal::Malformed);
     }
-    if !has_room(fit.extra.words, entry.length, room) {
+    if !record::has_room(fit.extra.words, entry.length, room) {
         return Err(Refusal::LogShort);
     }
     Ok(())
@@ -144,7 +105,13 @@ fn take_entry(fit: Fit, area: &mut [f64], source: Source, reply: Reply) -> Fit
         fit area.old result area.new }
 {
     if let Reply::Gradient = reply {
-        source.store_gradient(area, fit.shape.n, fit.extra.words + 1);
+        let from = fit.extra.words + 1;
+        area::set_each(
+            area,
+            fit.shape.n,
+            area::TRIAL_GRADIENT,
+            |_area, i| float::word_to_float(source.word(from + i)),
+        );
     }
     driver::advance(fit, area, reply)
 }
@@ -180,7 +147,7 @@ fn value_at(
     let Reply::Value(word) = entry.reply else {
         return None;
     };
-    if !has_room(probe.extra.words, entry.length, room) {
+    if !record::has_room(probe.extra.words, entry.length, room) {
         return None;
     }
     Some((word, entry.length))

@@ -7,14 +7,17 @@ use std::io::Read;
 
 // The next input: a word of how many zero bytes it begins with, a word of how many bytes follow, and these. Whether it came whole.
 fn one_case<R: Print, F: Read>(rt: &R, file: &mut F) -> io::Result<bool> {
-    let mut head = [0u8; 16];
-    if !cases::fetch(file, &mut head, 0, 2)? {
+    let mut head = [[0u8; 8]; 2];
+    if !cases::fetch(file, &mut head, 2)? {
         return Ok(false);
     }
+    let mut buffer = [0u8; 65_537];
     let zeros = cases::size(&head, 0);
     let end = zeros.wrapping_add(cases::size(&head, 1));
-    let mut buffer = [0u8; 65_537];
-    if !cases::fetch_bytes(file, &mut buffer, zeros, end)? {
+    let Some(bytes) = buffer.get_mut(zeros..end) else {
+        return Ok(false);
+    };
+    if !cases::fetch_bytes(file, bytes)? {
         return Ok(false);
     }
     if let Some(input) = buffer.get(..end) {
@@ -23,19 +26,9 @@ fn one_case<R: Print, F: Read>(rt: &R, file: &mut F) -> io::Result<bool> {
     Ok(true)
 }
 
-// Every input of the file. Nothing says that a file ends, so the turns are counted up to the most.
-fn run<R: Print, F: Read>(rt: &R, file: &mut F) -> io::Result<()> {
-    for _ in 0..u64::MAX {
-        if !one_case(rt, file)? {
-            return Ok(());
-        }
-    }
-    Ok(())
-}
-
 fn main(rt: HostRuntime) -> io::Result<()> {
     let Some(mut file) = cases::opened(&rt)? else {
         return Ok(());
     };
-    run(&rt, &mut file)
+    cases::each_case(|_| one_case(&rt, &mut file))
 }

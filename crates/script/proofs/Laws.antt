@@ -1,12 +1,15 @@
--- Laws of a script: the part that a call names, one call, the calls by number, one more of them, and the whole from an allowed start. Assumes nothing.
-use Prim.Native.Nat.{ℕ, zero, suc, ◌+◌, ◌*◌, ◌/◌}
+-- Laws of a script: one call, the calls by their words, one more of them, and the whole from an allowed start. Assumes nothing.
+use Prim.Native.Nat.{ℕ, zero, suc, ◌+◌, ◌/◌, ◌≤◌, ◌<◌}
 use mathlib.Core.Path.{◌≡◌, refl, sym, ap, ◌∙◌, subst}
 use mathlib.Core.Bool.{true}
-use mathlib.Core.List.{List, [], ◌∷◌, ◌++◌}
+use mathlib.Core.List.{List, [], ◌∷◌, ◌++◌, map, map-append}
+use Rattle.std.specs.Simd.{first_chunks}
+use Rattle.std.proofs.Common.{take_all}
+use lib.Seq.{take-suc}
 use Rattle.std.specs.Prelude.{Option, None, Some, Result, Ok, Err, MatchResult, IsOkAnd}
 use native.Mathlib.Numerals.{add-one}
 use native.Mathlib.Omega.{arith}
-use lib.ListN.{length, get_or, replicate}
+use lib.ListN.{length, get_or, take, replicate}
 use lib.Ieee.{Float}
 use Rattle.definition.specs.Number.{zero64}
 use Rattle.definition.specs.Problem as P
@@ -26,7 +29,7 @@ use Rattle.lbfgsb.specs.Bridge.{next, kept, asked, told, entered, saved}
 use Rattle.lbfgsb.specs.Did.{Opening, Stepped, Read, Counted}
 use Rattle.lbfgsb.specs.Chain.{Chain, Opens, Allowed}
 use Rattle.lbfgsb.proofs.Lists.{stepped, read_did, sized, from, after, every, zeros_blank}
-use Rattle.script.specs.Script.{Given, given, call_of, called, called_at, calls}
+use Rattle.script.specs.Script.{Given, given, call_of, called, calls}
 use Rattle.script.specs.Script.{ran_as, read_as, answer_of, shown, last_of, Shows, Runs}
 use Rattle.script.specs.declared.Answer.{Answer}
 use Rattle.script.specs.declared.Answer.TheVariants as A
@@ -103,47 +106,25 @@ shown_saved (Ok x) (Ok y) n p f b h = rw h refl
 shown_saved (Ok x) (Err c) n p f b h = absurd h
 shown_saved (Err c) z n p f b h = rw h refl
 
--- ---- the calls by number
+-- ---- the calls by their words
 
-abbrev pub call_at : Given → List ℕ → ℕ → Call
-call_at g s i = call_of g (called_at s i)
+abbrev pub call_in : Given → List ℕ → Call
+call_in g ws = call_of g (called (get_or ws 0 0) (get_or ws 1 0) (get_or ws 2 0))
 
--- the first i calls of a script
-unfoldable pub calls_to : Given → List ℕ → ℕ → List Call
-calls_to g s zero = []
-calls_to g s (suc i) = calls_to g s i ++ (call_at g s i ∷ [])
+-- the calls of their words
+abbrev pub calls_in : Given → List (List ℕ) → List Call
+calls_in g = map (call_in g)
 
-called_same : (s : List ℕ) (x x' y y' z z' : ℕ) → x ≡ x' → y ≡ y' → z ≡ z'
-    → called (get_or s x 0) (get_or s y 0) (get_or s z 0) ≡ called (get_or s x' 0) (get_or s y' 0) (get_or s z' 0)
-called_same s x x' y y' z z' p q r =
-    ap (λ (k : ℕ). called (get_or s k 0) (get_or s y 0) (get_or s z 0)) p
-    ∙ ap (λ (k : ℕ). called (get_or s x' 0) (get_or s k 0) (get_or s z 0)) q
-    ∙ ap (λ (k : ℕ). called (get_or s x' 0) (get_or s y' 0) (get_or s k 0)) r
-
-call_next : (g : Given) (op a b : ℕ) (s : List ℕ) (i : ℕ) → call_at g (op ∷ a ∷ b ∷ s) (suc i) ≡ call_at g s i
-call_next g op a b s i =
-    ap (call_of g)
-    (called_same (op ∷ a ∷ b ∷ s) (3 * suc i) (suc (suc (suc (3 * i)))) (3 * suc i + 1) (suc (suc (suc (3 * i + 1)))) (3 * suc i + 2)
-    (suc (suc (suc (3 * i + 2)))) (omega arith) (omega arith) (omega arith))
-
-calls_cons : (g : Given) (op a b : ℕ) (s : List ℕ) (i : ℕ) → calls_to g (op ∷ a ∷ b ∷ s) (suc i) ≡ call_of g (called op a b) ∷ calls_to g s i
-unfolding calls_to
-calls_cons g op a b s zero = refl
-calls_cons g op a b s (suc i) =
-    ap (λ (cs : List Call). cs ++ (call_at g (op ∷ a ∷ b ∷ s) (suc i) ∷ [])) (calls_cons g op a b s i)
-    ∙ ap (λ (c : Call). (call_of g (called op a b) ∷ calls_to g s i) ++ (c ∷ [])) (call_next g op a b s i)
-
-third : (k : ℕ) → suc (suc (suc k)) / 3 ≡ suc (k / 3)
-third k = omega arith
-
-calls_all : (g : Given) (s : List ℕ) → calls_to g s (length s / 3) ≡ calls g s
-unfolding calls_to calls
-calls_all g [] = refl
-calls_all g (op ∷ []) = refl
-calls_all g (op ∷ a ∷ []) = refl
-calls_all g (op ∷ a ∷ b ∷ s) =
-    ap (calls_to g (op ∷ a ∷ b ∷ s)) (third (length s)) ∙ calls_cons g op a b s (length s / 3)
-    ∙ ap (λ (cs : List Call). call_of g (called op a b) ∷ cs) (calls_all g s)
+calls_all : (g : Given) (s : List ℕ) (k : ℕ) → k ≡ length s / 3 → calls_in g (first_chunks 3 k s) ≡ calls g s
+unfolding calls
+calls_all g [] zero e = refl
+calls_all g [] (suc k) e = absurd (omega arith)
+calls_all g (op ∷ []) zero e = refl
+calls_all g (op ∷ []) (suc k) e = absurd (omega arith)
+calls_all g (op ∷ a ∷ []) zero e = refl
+calls_all g (op ∷ a ∷ []) (suc k) e = absurd (omega arith)
+calls_all g (op ∷ a ∷ b ∷ s) zero e = absurd (omega arith)
+calls_all g (op ∷ a ∷ b ∷ s) (suc k) e = ap (λ (cs : List Call). call_of g (called op a b) ∷ cs) (calls_all g s k (omega arith))
 
 -- ---- one call more
 
@@ -180,22 +161,24 @@ pub given_same :
 given_same s gs input p p' f f' b b' e₁ e₂ e₃ =
     ap (λ (x : ℕ). given s gs input x f' b') e₁ ∙ ap (λ (x : ℕ). given s gs input p x b') e₂ ∙ ap (λ (x : ℕ). given s gs input p f x) e₃
 
-pub ran_none : (g : Given) (s : List ℕ) (w : Words) → Runs (calls_to g s 0) w w None
-unfolding calls_to
-ran_none g s w = runs [] Chain.end refl
+pub ran_none : (w : Words) → Runs [] w w None
+ran_none w = runs [] Chain.end refl
 
 pub ran_more :
-    (g g' : Given) (s : List ℕ) (i : ℕ) (k : Called) (w w' w'' : Words) (o o' : Option H.Answer) → g' ≡ g → k ≡ called_at s i
-    → Runs (calls_to g s i) w w' o → Shows (call_of g' k) w' w'' o' → Runs (calls_to g s (i + 1)) w w'' o'
-unfolding calls_to
-ran_more g g' s i k w w' w'' o o' e q r d =
-    rw add-one
-    (ran_one (calls_to g s i) (call_at g s i) w w' w'' o o' r
-    (subst (λ (x : Call). Shows x w' w'' o') (ap (call_of g') q ∙ ap (λ (x : Given). call_at x s i) e) d))
+    (g g' : Given) (css : List (List ℕ)) (i : ℕ) (k : Called) (w w' w'' : Words) (o o' : Option H.Answer) → g' ≡ g → i < length css
+    → k ≡ (let ws = get_or css i [] in called (get_or ws 0 0) (get_or ws 1 0) (get_or ws 2 0))
+    → Runs (calls_in g (take i css)) w w' o → Shows (call_of g' k) w' w'' o' → Runs (calls_in g (take (i + 1) css)) w w'' o'
+ran_more g g' css i k w w' w'' o o' e h q r d =
+    let ws = get_or css i [] in
+    rw (add-one, take-suc css i [] h, map-append)
+    (ran_one (calls_in g (take i css)) (call_in g ws) w w' w'' o o' r
+    (subst (λ (x : Call). Shows x w' w'' o') (ap (call_of g') q ∙ ap (λ (x : Given). call_in x ws) e) d))
 
 -- all calls
-pub ran_all : (g : Given) (s : List ℕ) (i : ℕ) (w w' : Words) (o : Option H.Answer) → i ≡ length s / 3 → Runs (calls_to g s i) w w' o → Runs (calls g s) w w' o
-ran_all g s i w w' o e d = subst (λ (cs : List Call). Runs cs w w' o) (ap (calls_to g s) e ∙ calls_all g s) d
+pub ran_all : (g : Given) (s : List ℕ) (css : List (List ℕ)) (i : ℕ) (w w' : Words) (o : Option H.Answer) → css ≡ first_chunks 3 (length s / 3) s
+    → length css ≤ i → Runs (calls_in g (take i css)) w w' o → Runs (calls g s) w w' o
+ran_all g s css i w w' o e h d =
+    subst (λ (cs : List Call). Runs cs w w' o) (ap (calls_in g) (take_all i css h ∙ e) ∙ calls_all g s (length s / 3) refl) d
 
 -- ---- a script from an allowed start
 

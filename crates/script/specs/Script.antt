@@ -1,5 +1,5 @@
 -- A script: the list of calls that its words are, and what running it leaves and answers, by the history.
-use Rattle.std.specs.Prelude.{ℕ, ◌+◌, ◌*◌, ◌≡◌, cond, List, [], ◌∷◌, eqb, ltb, leb, length, get_or, take, drop, Float}
+use Rattle.std.specs.Prelude.{ℕ, ◌+◌, ◌≡◌, cond, List, [], ◌∷◌, eqb, ltb, leb, length, take, drop, Float}
 use Rattle.std.specs.Prelude.{Option, None, Some, Result, Ok, Err}
 use Rattle.definition.specs.Problem as P
 use Rattle.definition.specs.History as H
@@ -72,10 +72,6 @@ call_of g C.Report = Call.report g.point
 call_of g C.Replies = Call.replies
 call_of g (C.Entry k) = Call.entry k g.found
 call_of g C.Save = Call.save g.bytes
-
--- call i
-abbrev pub called_at : List ℕ → ℕ → Called
-called_at s i = called (get_or s (3 * i) 0) (get_or s (3 * i + 1) 0) (get_or s (3 * i + 2) 0)
 
 -- the calls of a script, three words each; words past the last call count for nothing
 unfoldable pub calls : Given → List ℕ → List Call

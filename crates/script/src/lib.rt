@@ -1,9 +1,9 @@
 // Runs a script of calls of the exported operations, three words to a call, each at the words that the last one left.
 #![tactic(auto)]
 
-ghost use Rattle.std.specs.Prelude.{◌≡◌, List, ℕ, ◌+◌, ◌*◌, ◌<◌, length, Some};
+ghost use Rattle.std.specs.Prelude.{◌≡◌, List, ℕ, length, Some};
 ghost use Rattle.lbfgsb.specs.Words.{words};
-ghost use Rattle.script.specs.Script.{part_of, called, called_at, call_of, calls, given_of, ran_as, read_as, shown, Shows, Runs};
+ghost use Rattle.script.specs.Script.{part_of, called, call_of, calls, given_of, ran_as, read_as, shown, Shows, Runs};
 
 use lbfgsb::{Fit, Kind, Outcome, Refusal, Reply, Setup};
 
@@ -79,7 +79,7 @@ impl Called {
         let part = Part { from: a, count: b };
         match op {
             0 => Called::Start,
-            1 | 2 | 3 | 4 | 5 | 6 => Called::Reply(Reply::of_kind(op, a), part),
+            1..=6 => Called::Reply(Reply::of_kind(op, a), part),
             7 => Called::TakeBack(a as usize),
             8 => Called::Restore(part),
             9 => Called::Question,
@@ -89,14 +89,6 @@ impl Called {
             _ => Called::Save,
         }
     }
-}
-
-// Call i of a script.
-fn call_at(script: &[u64], i: usize) -> Called
-    requires { 3 * i + 2 < length script.now }
-    ensures { result ≡ called_at script.now i }
-{
-    Called::of_words(script[3 * i], script[3 * i + 1], script[3 * i + 2])
 }
 
 // ---- the script
@@ -170,6 +162,7 @@ fn step(
 //   7 take back a, 8 restore from b bytes from a on of the records
 //   9 question, 10 report, 11 replies, 12 entry a, any other save
 // A part that is not all there is empty, and words past the last call count for nothing.
+// Kept: five outputs. A struct of them proves, but what a caller then finds in its own slices takes five clauses more, that each loan is the same.
 pub fn run_script(
     script: &[u64],
     inputs: Inputs,
@@ -185,9 +178,10 @@ pub fn run_script(
         (shown result.last result.fit.shape.n point.new found.new bytes.new) }
 {
     let mut ran = Ran { fit, last: None };
-    for i in 0..script.len() / 3 {
+    let (calls, _) = script.as_chunks::<3>();
+    for [op, a, b] in calls {
         ran = step(
-            call_at(script, i),
+            Called::of_words(*op, *a, *b),
             inputs,
             ran,
             area,

@@ -48,16 +48,24 @@ const RECORD: usize = 184;
 
 // ---- the scripts
 
-// A script: its calls, how many of their words are run, the lengths of both sides of its box, and how many bytes of the last record saved
-// it may read.
+// A script: its calls, how many words are cut from their end, both sides of its box, and whether it may read the record that was saved last.
 #[derive(Clone, Copy)]
 struct Script {
     calls: &'static [[u64; 3]],
-    words: usize,
-    lower: usize,
-    upper: usize,
-    record: usize,
+    cut: usize,
+    lower: &'static [f64],
+    upper: &'static [f64],
+    reads: bool,
 }
+
+// No call, on the box of the case, with one byte to read.
+const EMPTY: Script = Script {
+    calls: &[],
+    cut: 0,
+    lower: &[-8.0],
+    upper: &[8.0],
+    reads: false,
+};
 
 const SCRIPTS: [Script; 16] = [
     // the case: value, gradient, value, gradient, go on, report
@@ -71,10 +79,7 @@ const SCRIPTS: [Script; 16] = [
             [GO_ON, 0, 0],
             [REPORT, 0, 0],
         ],
-        words: 21,
-        lower: 1,
-        upper: 1,
-        record: 1,
+        ..EMPTY
     },
     // a value taken back and given anew
     Script {
@@ -89,10 +94,7 @@ const SCRIPTS: [Script; 16] = [
             [GO_ON, 0, 0],
             [REPORT, 0, 0],
         ],
-        words: 27,
-        lower: 1,
-        upper: 1,
-        record: 1,
+        ..EMPTY
     },
     // all taken back: the first question is open again
     Script {
@@ -104,49 +106,34 @@ const SCRIPTS: [Script; 16] = [
             [TAKE_BACK, 3, 0],
             [QUESTION, 0, 0],
         ],
-        words: 18,
-        lower: 1,
-        upper: 1,
-        record: 1,
+        ..EMPTY
     },
     // a reply that is not due
     Script {
         calls: &[[START, 0, 0], [GO_ON, 0, 0]],
-        words: 6,
-        lower: 1,
-        upper: 1,
-        record: 1,
+        ..EMPTY
     },
     // a gradient of two words
     Script {
         calls: &[[START, 0, 0], [VALUE, EIGHT, 0], [GRADIENT, 0, 2]],
-        words: 9,
-        lower: 1,
-        upper: 1,
-        record: 1,
+        ..EMPTY
     },
     // more taken back than given
     Script {
         calls: &[[START, 0, 0], [VALUE, EIGHT, 0], [TAKE_BACK, 2, 0]],
-        words: 9,
-        lower: 1,
-        upper: 1,
-        record: 1,
+        ..EMPTY
     },
     // sides of the box longer than the start: the lower one of three words before the upper one of two, then the upper one alone
     Script {
         calls: &[[START, 0, 0]],
-        words: 3,
-        lower: 3,
-        upper: 2,
-        record: 1,
+        lower: &[-8.0, -8.0, -8.0],
+        upper: &[8.0, 8.0],
+        ..EMPTY
     },
     Script {
         calls: &[[START, 0, 0]],
-        words: 3,
-        lower: 1,
-        upper: 2,
-        record: 1,
+        upper: &[8.0, 8.0],
+        ..EMPTY
     },
     // a refused reply keeps the fit: its replies are those of before, then its entry
     Script {
@@ -156,10 +143,7 @@ const SCRIPTS: [Script; 16] = [
             [GRADIENT, 0, 2],
             [REPLIES, 0, 0],
         ],
-        words: 12,
-        lower: 1,
-        upper: 1,
-        record: 1,
+        ..EMPTY
     },
     Script {
         calls: &[
@@ -168,10 +152,7 @@ const SCRIPTS: [Script; 16] = [
             [GRADIENT, 0, 2],
             [ENTRY, 0, 0],
         ],
-        words: 12,
-        lower: 1,
-        upper: 1,
-        record: 1,
+        ..EMPTY
     },
     // calls at no fit, unknown ops, a part out of range and two words too many, before the question
     Script {
@@ -186,18 +167,14 @@ const SCRIPTS: [Script; 16] = [
             [QUESTION, 0, 0],
             [5, 5, 0],
         ],
-        words: 26,
-        lower: 1,
-        upper: 1,
-        record: 1,
+        cut: 1,
+        ..EMPTY
     },
     // no call at all
     Script {
         calls: &[[START, 0, 0]],
-        words: 2,
-        lower: 1,
-        upper: 1,
-        record: 1,
+        cut: 1,
+        ..EMPTY
     },
     // the record of the case, and the fit that is read in from it: its replies, and its report; a record cut by a byte
     Script {
@@ -210,71 +187,70 @@ const SCRIPTS: [Script; 16] = [
             [GO_ON, 0, 0],
             [SAVE, 0, 0],
         ],
-        words: 21,
-        lower: 1,
-        upper: 1,
-        record: 1,
+        ..EMPTY
     },
     Script {
         calls: &[[RESTORE, 0, 184], [REPLIES, 0, 0]],
-        words: 6,
-        lower: 1,
-        upper: 1,
-        record: RECORD,
+        reads: true,
+        ..EMPTY
     },
     Script {
         calls: &[[RESTORE, 0, 184], [REPORT, 0, 0]],
-        words: 6,
-        lower: 1,
-        upper: 1,
-        record: RECORD,
+        reads: true,
+        ..EMPTY
     },
     Script {
         calls: &[[RESTORE, 0, 183]],
-        words: 3,
-        lower: 1,
-        upper: 1,
-        record: RECORD,
+        reads: true,
+        ..EMPTY
     },
 ];
 
 // ---- what a script is given
 
+const SHAPE: Shape = Shape {
+    n: 7,
+    m: 7,
+    pairs: 7,
+    oldest: 7,
+};
+
+const LIMITS: Limits = Limits {
+    ftol: 7.0,
+    gtol: 7.0,
+    maxiter: 7,
+    maxfev: 7,
+};
+
+const COUNTERS: Counters = Counters {
+    nit: 7,
+    nfev: 7,
+    njev: 7,
+};
+
+const SEARCH: Search = Search {
+    step: Step {
+        alpha: 7.0,
+        low: 7.0,
+        high: 7.0,
+        slope0: 7.0,
+        amax: 7.0,
+    },
+    trials: Trials {
+        count: 7,
+        face: true,
+        bracketed: true,
+    },
+};
+
 // A state of sevens: the fit of no run.
 fn junk() -> Fit {
     Fit {
-        shape: Shape {
-            n: 7,
-            m: 7,
-            pairs: 7,
-            oldest: 7,
-        },
+        shape: SHAPE,
         options: boxed(),
-        limits: Limits {
-            ftol: 7.0,
-            gtol: 7.0,
-            maxiter: 7,
-            maxfev: 7,
-        },
-        counters: Counters {
-            nit: 7,
-            nfev: 7,
-            njev: 7,
-        },
-        search: Search {
-            step: Step {
-                alpha: 7.0,
-                low: 7.0,
-                high: 7.0,
-                slope0: 7.0,
-                amax: 7.0,
-            },
-            trials: Trials {
-                count: 7,
-                face: true,
-                bracketed: true,
-            },
-        },
+        limits: LIMITS,
+        counters: COUNTERS,
+        search: SEARCH,
         value: 7.0,
         trial_value: 7.0,
         right_value: 7.0,
@@ -308,36 +284,42 @@ struct Line {
 }
 
 impl fmt::Display for Line {
-    fn fmt<W: fmt::Write>(&self, f: &mut fmt::Formatter<W>) -> fmt::Result {
+    fn fmt<W: fmt::Write>(&self, formatter: &mut fmt::Formatter<W>) -> fmt::Result {
         let point = float::float_to_word(self.point);
         let answer = match self.ran.last {
-            None => return write!(f, "0"),
+            None => return write!(formatter, "0"),
             Some(Err(refusal)) => {
                 let (first, second) = refusal.details();
-                return write!(f, "2 {} {first} {second}", refusal.number());
+                return write!(formatter, "2 {} {first} {second}", refusal.number());
             }
             Some(Ok(answer)) => answer,
         };
         match answer {
-            Answer::Done => write!(f, "1"),
-            Answer::Asked(None) => write!(f, "3"),
-            Answer::Asked(Some(kind)) => write!(f, "4 {} {point:016x}", kind.number()),
-            Answer::Reported(o) => {
-                let value = float::float_to_word(o.value);
+            Answer::Done => write!(formatter, "1"),
+            Answer::Asked(None) => write!(formatter, "3"),
+            Answer::Asked(Some(kind)) => write!(formatter, "4 {} {point:016x}", kind.number()),
+            Answer::Reported(outcome) => {
+                let value = float::float_to_word(outcome.value);
                 write!(
-                    f,
+                    formatter,
                     "5 {} {} {} {} {}",
-                    o.status(),
-                    o.nit,
-                    o.nfev,
-                    o.njev,
-                    o.drawn
+                    outcome.status(),
+                    outcome.nit,
+                    outcome.nfev,
+                    outcome.njev,
+                    outcome.drawn
                 )?;
-                write!(f, " {value:016x} {point:016x}")
+                write!(formatter, " {value:016x} {point:016x}")
             }
-            Answer::Counted(k) => write!(f, "6 {k}"),
-            Answer::Entered(k) => write!(f, "7 {k} {:016x} {:016x}", self.first, self.second),
-            Answer::Saved(k) => write!(f, "8 {k}"),
+            Answer::Counted(count) => write!(formatter, "6 {count}"),
+            Answer::Entered(count) => {
+                write!(
+                    formatter,
+                    "7 {count} {:016x} {:016x}",
+                    self.first, self.second
+                )
+            },
+            Answer::Saved(count) => write!(formatter, "8 {count}"),
         }
     }
 }
@@ -347,8 +329,7 @@ impl fmt::Display for Line {
 // The last answer of a script.
 fn run(script: Script, record: &[u8], bytes: &mut [u8]) -> Line {
     let words = script.calls.as_flattened();
-    let lows = [-8.0f64; 3];
-    let highs = [8.0f64; 2];
+    let end = words.len().saturating_sub(script.cut);
     let mut area = [0.0f64; 496];
     let mut log = [0u64; 9];
     let mut point = [0.0f64; 1];
@@ -357,14 +338,14 @@ fn run(script: Script, record: &[u8], bytes: &mut [u8]) -> Line {
         setup: Setup {
             options: boxed(),
             x0: &[4.0],
-            lower: &lows[..script.lower.min(3)],
-            upper: &highs[..script.upper.min(2)],
+            lower: script.lower,
+            upper: script.upper,
         },
         gradients: &[FOUR, 0],
-        records: &record[..script.record.min(record.len())],
+        records: if script.reads { record } else { &[0] },
     };
     let ran = script::run_script(
-        &words[..script.words.min(words.len())],
+        &words[..end],
         inputs,
         junk(),
         &mut area,

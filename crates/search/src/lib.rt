@@ -9,8 +9,8 @@ ghost use Rattle.definition.specs.Search.{following as following_of, goes_on, ne
 ghost use Rattle.definition.specs.Driver.{no_search};
 ghost use Rattle.search.specs.State.{search_of, limit_of, verdict_of, Settled, VerdictSettled};
 
-// Kept: a rule of the project, that the search is a record of floats by value with the trial count beside it.
 // The step, the two ends, the slope at the point held and the limit of the step.
+// Kept: a rule of the project, that the search is a record of floats by value with the trial count beside it.
 #[derive(Clone, Copy, Debug, Default)]
 pub struct Step {
     pub alpha: f64,
@@ -123,50 +123,40 @@ fn on_face(search: Search, held: f64, value: f64) -> bool
     search.trials.face && search.step.alpha == search.step.amax && value < held
 }
 
-// Whether the step is accepted, by the decrease test.
-fn accepts(search: Search, decrease: bool, held: f64, value: f64, slope: f64) -> bool
-    ensures { result ≡ (decrease && (flat_of (search_of search) slope || on_face (search_of search) held value)) }
-{
-    decrease && (flat(search, slope) || on_face(search, held, value))
+// The ends between which the next trial is made; no high end is known yet where the second is absent.
+#[derive(Clone, Copy)]
+struct Ends {
+    low: f64,
+    high: Option<f64>,
 }
 
-// Whether the trial becomes the high end, by the decrease test.
-fn narrows(decrease: bool, slope: f64) -> bool
-    ensures { result ≡ (not decrease || Ieee.le zero64 slope) }
+// The ends where the trial becomes the high one.
+fn below_trial(search: Search) -> Ends
+    ensures { (result.low ≡ (search_of search).low) × (result.high ≡ Some (search_of search).alpha) }
 {
-    !decrease || 0.0 <= slope
-}
-
-// The ends after a trial that is not accepted: it becomes the high end or the low one.
-fn low_after(search: Search, narrow: bool) -> f64
-    ensures { result ≡ cond narrow (search_of search).low (search_of search).alpha }
-{
-    if narrow {
-        search.step.low
-    } else {
-        search.step.alpha
+    Ends {
+        low: search.step.low,
+        high: Some(search.step.alpha),
     }
 }
 
-fn high_after(search: Search, narrow: bool) -> Option<f64>
-    ensures { result ≡ cond narrow (Some (search_of search).alpha) (search_of search).high }
+// The ends where the trial becomes the low one.
+fn above_trial(search: Search) -> Ends
+    ensures { (result.low ≡ (search_of search).alpha) × (result.high ≡ (search_of search).high) }
 {
-    if narrow {
-        Some(search.step.alpha)
-    } else if search.trials.bracketed {
-        Some(search.step.high)
-    } else {
-        None
+    Ends {
+        low: search.step.alpha,
+        high: search.trials.bracketed.then_some(search.step.high),
     }
 }
 
 // The step after this one: between the ends, or twice as far up to the limit.
 #[tactic(auto, using(float::proofs::Constants::two_is, float::proofs::Constants::half_is))]
-fn following(search: Search, low: f64, high: Option<f64>) -> f64
-    ensures { result ≡ following_of (search_of search) low high }
+fn following(search: Search, ends: Ends) -> f64
+    ensures { result ≡ following_of (search_of search) ends.low ends.high }
 {
-    match high {
-        Some(end) => (low + end) * 0.5,
+    match ends.high {
+        Some(high) => (ends.low + high) * 0.5,
         None => float::min(search.step.alpha * 2.0, search.step.amax),
     }
 }
@@ -178,38 +168,28 @@ fn goes_on(search: Search, next: f64) -> bool
     !(next == search.step.alpha || next == 0.0 || SEARCH_TRIALS <= search.trials.count)
 }
 
-// The trial at the step `next`, between the ends low and high: an absent high end stands as 0.
-fn next_trial(search: Search, low: f64, high: Option<f64>, next: f64) -> Option<Search>
-    ensures trial { option_map search_of result ≡ next_trial (search_of search) low high next }
+// The trial between the ends: an absent high end stands as 0.
+fn next_trial(search: Search, ends: Ends) -> Option<Search>
+    ensures trial { let s = search_of search in
+        option_map search_of result ≡ next_trial s ends.low ends.high (following_of s ends.low ends.high) }
     ensures settled { IfSome result Settled }
 {
+    let next = following(search, ends);
     if !goes_on(search, next) {
         return None;
     }
-    let end = high.unwrap_or(0.0);
     let step = Step {
         alpha: next,
-        low,
-        high: end,
+        low: ends.low,
+        high: ends.high.unwrap_or(0.0),
         ..search.step
     };
     let trials = Trials {
         count: search.trials.count + 1,
-        bracketed: high.is_some(),
+        bracketed: ends.high.is_some(),
         ..search.trials
     };
     Some(Search { step, trials })
-}
-
-// The trial after one that is not accepted.
-fn after_trial(search: Search, narrow: bool) -> Option<Search>
-    ensures trial { let s = search_of search in let low = cond narrow s.low s.alpha in let high = cond narrow (Some s.alpha) s.high in
-        option_map search_of result ≡ next_trial s low high (following_of s low high) }
-    ensures settled { IfSome result Settled }
-{
-    let low = low_after(search, narrow);
-    let high = high_after(search, narrow);
-    next_trial(search, low, high, following(search, low, high))
 }
 
 // What the search hands back after a trial. The decrease test is made once.
@@ -218,10 +198,15 @@ pub fn judge(search: Search, held: f64, value: f64, slope: f64) -> Verdict
     ensures { (verdict_of result ≡ judge_of (search_of search) held value slope) × VerdictSettled result }
 {
     let decrease = decreases(search, held, value);
-    if accepts(search, decrease, held, value, slope) {
+    if decrease && (flat(search, slope) || on_face(search, held, value)) {
         return Verdict::Accepted;
     }
-    match after_trial(search, narrows(decrease, slope)) {
+    let ends = if !decrease || 0.0 <= slope {
+        below_trial(search)
+    } else {
+        above_trial(search)
+    };
+    match next_trial(search, ends) {
         Some(next) => Verdict::Another(next),
         None => Verdict::Failed,
     }

@@ -1,26 +1,26 @@
 -- Laws of `specs/Factors.antt`: the loops of an elimination, whatever the right side, and the solution that follows. Assumes nothing.
-use mathlib.Core.Path.{◌≡◌, refl, ap, ◌∙◌}
+use mathlib.Core.Path.{◌≡◌, refl, sym, ap, ◌∙◌}
 use mathlib.Core.Bool.{Bool, true, false, not, cond, ◌&&◌}
-use mathlib.Core.List.{List, [], ◌∷◌}
+use mathlib.Core.List.{List, [], ◌∷◌, map}
 use Rattle.std.specs.Prelude.{Option, None, Some}
 use Rattle.std.specs.Bool.{then_some}
-use Rattle.std.specs.List.{list_all, swap}
+use Rattle.std.specs.List.{fold, zip, list_all, swap}
 use Rattle.std.proofs.lemmas.List.{get_or_default}
 use Rattle.std.proofs.lemmas.List.Folds.{list_all_more}
 use Rattle.std.proofs.Common.{lit<}
 use Prim.Native.Nat.{ℕ, zero, suc, ◌+◌, ◌-◌, ◌≤◌, ◌<◌}
 use native.Mathlib.Numerals.{add-one}
 use native.Mathlib.Omega.{arith}
-use lib.ListN.{length, get_or, set, replicate, take, length-set}
-use lib.Seq.{get_or-set_same, get_or-set_other}
+use lib.ListN.{length, get_or, set, replicate, take, drop, length-set, length-drop}
+use lib.Seq.{get_or-set_same, get_or-set_other, get_or-drop}
 use lib.Ieee as Ieee
 use lib.Ieee.{Float, nan}
 use lib.Ieee.Scale.{finite}
-use Rattle.definition.specs.Number.{minus, times, over, zero64}
-use Rattle.definition.specs.Vector.{fold_to, word, all_finite, ◌and_then◌, finite_only}
+use Rattle.definition.specs.Number.{plus, minus, times, over, zero64, neg_zero}
+use Rattle.definition.specs.Vector.{fold_to, word, sum, all_finite, ◌and_then◌, finite_only}
 use Rattle.definition.specs.Solve.{Matrix, System, system, entry, scale_of, pivot_of, swap_rows, swap_words, less_row, less_pivot, eliminated}
 use Rattle.definition.specs.Solve.{pivots, on_column, column, triangular, backward, solve}
-use Rattle.area.proofs.Laws.{looped_stays}
+use Rattle.area.proofs.Laws.{looped_stays, fold_first}
 use Rattle.solve.specs.declared.Cleared.{Cleared}
 use Rattle.solve.specs.declared.factors.Factors.{Factors}
 use Rattle.solve.specs.Steps.{cleared_to, stepped, forward_to, Eliminates, OrderInRange, regular}
@@ -52,6 +52,27 @@ pub ran_done : {A : Type 0} {a n : ℕ} {step : ℕ → A → A} {z s : A} {i : 
 ran_done {n = n} {i = i} r h = let e : i ≡ n = omega (arith, r.upto) in rw e at r.is
 
 pub ruleset loops = (ran_none, ran_more, ran_done)
+
+-- ---- the first m places of two rows, multiplied place by place and added up
+
+products : (xs ys : List Float) (m : ℕ) (z : Float) → m ≤ length xs → m ≤ length ys
+    → fold plus z (map (λ (p : Float × Float). times p.0 p.1) (zip (take m xs) (take m ys)))
+    ≡ fold_to m (λ i s. plus s (times (word xs i) (word ys i))) z
+unfolding fold_to
+products xs ys zero z l e = refl
+products [] ys (suc m) z l e = absurd (omega arith)
+products (x ∷ xs) [] (suc m) z l e = absurd (omega arith)
+products (x ∷ xs) (y ∷ ys) (suc m) z l e =
+    products xs ys m (plus z (times x y)) (omega arith) (omega arith)
+    ∙ sym (fold_first m (λ i s. plus s (times (word (x ∷ xs) i) (word (y ∷ ys) i))) z)
+
+-- those from place `at` on
+pub products_from : (xs ys : List Float) (at m : ℕ) → at + m ≤ length xs → at + m ≤ length ys
+    → fold plus neg_zero (map (λ (p : Float × Float). times p.0 p.1) (zip (take m (drop at xs)) (take m (drop at ys))))
+    ≡ sum m (λ d. times (word xs (at + d)) (word ys (at + d)))
+products_from xs ys at m l e =
+    products (drop at xs) (drop at ys) m neg_zero (rw length-drop (omega arith)) (rw length-drop (omega arith))
+    ∙ (λ j. fold_to m (λ d s. plus s (times (get_or-drop at xs d nan j) (get_or-drop at ys d nan j))) neg_zero)
 
 -- ---- two places that change places
 
@@ -192,9 +213,6 @@ columns_done {n} {scale} {a} {k} g r l =
     record { is = λ b. rw e at (r.is b) }
 
 -- ---- the factors, and the solution by them
-
-pub irregular : {n : ℕ} {a : Matrix} {s : Float} (f : Factors) → s ≡ scale_of n a → regular s ≡ false → f.complete ≡ false → Factored n a f
-irregular f e h g = record { is = λ b. rw (← e, h, g) }
 
 pub factors : {n : ℕ} {a : Matrix} {s : Float} (f : Factors) → s ≡ scale_of n a → regular s ≡ true → Triangular n s a f.complete f → Factored n a f
 factors f e h r = record { is = λ b. r.is b ∙ rw (← e, h) }

@@ -38,6 +38,7 @@ impl Factors {
     }
 
     // Every column in turn; false at the first that has no pivot.
+    // Kept: an index. Column k is cleared over all rows, and what that leaves goes to place k of two arrays.
     fn triangular(&mut self, n: usize, scale: f64) -> bool
         requires { n ≤ SIZE }
         ensures { Triangular n scale self.old.rows result self.new }
@@ -78,16 +79,13 @@ impl Factors {
 }
 
 // The product of row i past its diagonal and x, from -0.0.
-#[tactic(auto, using(crate::proofs::Steps::loops, float::proofs::Constants::neg_zero_is))]
 fn row_sum(matrix: &Matrix, x: &Row, n: usize, i: usize) -> f64
     requires { (i < n) × (n ≤ SIZE) }
     ensures { result ≡ sum_of (n - (i + 1)) (λ d. times (entry matrix.now i (i + 1 + d)) (word x.now (i + 1 + d))) }
 {
-    let mut sum = float::NEG_ZERO;
-    for j in i + 1..n {
-        sum += matrix[i][j] * x[j];
-    }
-    sum
+    let row = &matrix[i][i + 1..n];
+    let known = &x[i + 1..n];
+    row.iter().zip(known).map(|(a, b)| a * b).sum()
 }
 
 // Place i of x, those after it being known.
@@ -100,6 +98,7 @@ fn back_row(matrix: &Matrix, right: &Row, x: &mut Row, n: usize, i: usize)
 }
 
 // The solution of a triangular system, from row n - 1 down.
+// Kept: an index. The row, its right side and its place in x are all number i.
 fn backward(matrix: &Matrix, right: Row, n: usize) -> Row
     requires { n ≤ SIZE }
     ensures { result ≡ backward_of n (system matrix.now right) }
@@ -119,18 +118,20 @@ fn all_finite(values: &[f64]) -> bool
 }
 
 // The places past k, each less its multiple of place k.
+// Kept: an index. The proof lacks what a slice holds once `iter_mut().zip(..)` is given up, and with `enumerate` an index would stay.
 #[tactic(auto, using(crate::proofs::Steps::loops), unfolding(crate::specs::Steps::cleared_to))]
-fn clear(x: &mut Row, multipliers: &Matrix, n: usize, k: usize)
+fn clear(x: &mut Row, multipliers: &Row, n: usize, k: usize)
     requires { (k < n) × (n ≤ SIZE) }
-    ensures { x.new ≡ cleared_to (n - (k + 1)) k (row multipliers.now k) x.old }
+    ensures { x.new ≡ cleared_to (n - (k + 1)) k multipliers.now x.old }
 {
     let value = x[k];
     for i in k + 1..n {
-        x[i] -= multipliers[k][i] * value;
+        x[i] -= multipliers[i] * value;
     }
 }
 
 // The right side, taken through the steps of the elimination.
+// Kept: an index. Step k is of place k, so `multipliers[..n].iter().zip(order).enumerate()` would only name the same three at greater length.
 fn forward(multipliers: &Matrix, order: &[usize; SIZE], right: Row, n: usize) -> Row
     requires { (n ≤ SIZE) × OrderInRange order.now }
     ensures { result ≡ forward_to n n multipliers.now order.now right }
@@ -138,7 +139,7 @@ fn forward(multipliers: &Matrix, order: &[usize; SIZE], right: Row, n: usize) ->
     let mut x = right;
     for k in 0..n {
         x.swap(k, order[k]);
-        clear(&mut x, multipliers, n, k);
+        clear(&mut x, &multipliers[k], n, k);
     }
     x
 }

@@ -18,6 +18,7 @@ pub const SIZE: usize = 32;
 
 pub type Row = [f64; SIZE];
 
+// Kept: n is passed beside the array. It is the length of the right side and of the solution too, which a struct of array and n would not hold.
 pub type Matrix = [Row; SIZE];
 
 // The larger of most and the magnitude of x, where most is not a NaN: one comparison.
@@ -47,30 +48,18 @@ fn scale(matrix: &Matrix, n: usize) -> f64
     ensures { result ≡ scale_of n matrix.now }
 {
     let mut most = 0.0f64;
-    for i in 0..n {
-        most = row_scale(&matrix[i], n, most);
+    for row in &matrix[..n] {
+        most = row_scale(row, n, most);
     }
     most
 }
 
-// A row, and the word of the magnitude of its entry in the column.
-#[derive(Clone, Copy)]
-struct Best {
-    row: usize,
-    size: u64,
-}
-
-// Of rows best and i the one with the larger entry in column k, and row i where they are level.
-fn larger(matrix: &Matrix, k: usize, best: Best, i: usize) -> Best
-    requires { (k < SIZE) × (i < SIZE) × (best.size ≡ to_word (abs_of (entry matrix.now best.row k))) }
-    ensures { (result.row ≡ cond (magnitude_le (entry matrix.now best.row k) (entry matrix.now i k)) i best.row)
-        × (result.size ≡ to_word (abs_of (entry matrix.now result.row k))) }
+// The word of the magnitude of row i's entry in column k: words are in the order of magnitudes.
+fn size(matrix: &Matrix, i: usize, k: usize) -> u64
+    requires { (i < SIZE) × (k < SIZE) }
+    ensures { result ≡ to_word (abs_of (entry matrix.now i k)) }
 {
-    let size = float::float_to_word(float::abs(matrix[i][k]));
-    if best.size <= size {
-        return Best { row: i, size };
-    }
-    best
+    float::float_to_word(float::abs(matrix[i][k]))
 }
 
 // Among rows k to n - 1 the last with the largest entry in column k.
@@ -78,15 +67,11 @@ fn pivot(matrix: &Matrix, n: usize, k: usize) -> usize
     requires { (k < n) × (n ≤ SIZE) }
     ensures { (result < n) × (result ≡ pivot_of n matrix.now k) }
 {
-    let size = float::float_to_word(float::abs(matrix[k][k]));
-    let mut best = Best { row: k, size };
-    for i in k + 1..n {
-        best = larger(matrix, k, best, i);
-    }
-    best.row
+    (k..n).max_by_key(|&i| size(matrix, i, k)).unwrap_or(k)
 }
 
 // Row i, less a multiple of row k, at the columns past k. Row k is lent as top, apart from the matrix, so that the compiler can make vector code of the loop.
+// Kept: an index. The proof lacks what a slice holds once `iter_mut().zip(..)` is given up, and with `enumerate` an index would stay.
 fn less_row(matrix: &mut Matrix, top: &Row, n: usize, multiplier: f64, k: usize, i: usize)
     requires { (k < i) × (i < n) × (n ≤ SIZE) × (row matrix.old k ≡ top.now) }
     ensures { (matrix.new ≡ less_row n multiplier matrix.old k i) × (row matrix.new k ≡ row matrix.old k) }
@@ -108,6 +93,7 @@ fn less_pivot(matrix: &mut Matrix, top: &Row, n: usize, k: usize, i: usize) -> f
 }
 
 // Every row below row k. The answer is the multipliers, each at its row's place.
+// Kept: an index. It is the row's as well as the place's, and over the places past k it would be counted from 0, and k + 1 added for the row.
 fn eliminate(matrix: &mut Matrix, n: usize, k: usize) -> Row
     requires { (k < n) × (n ≤ SIZE) }
     ensures { Eliminates n k matrix.old result matrix.new }

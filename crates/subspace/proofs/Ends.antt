@@ -1,22 +1,21 @@
 -- Laws of the end of the direction: both ends, the array that their difference fills, and the direction that is stored. Assumes nothing.
 use mathlib.Core.Path.{◌≡◌, ap, ◌∙◌}
 use mathlib.Core.Bool.{Bool, true, false, cond}
-use mathlib.Core.List.{List, ◌++◌}
+use mathlib.Core.List.{List}
 use Rattle.std.specs.Prelude.{Option, None, Some}
-use Prim.Native.Nat.{ℕ, suc, ◌+◌, ◌-◌, ◌*◌, ◌≤◌, ◌<◌}
-use native.Mathlib.Numerals.{add-one}
+use Prim.Native.Nat.{ℕ, ◌+◌, ◌-◌, ◌*◌, ◌≤◌}
 use native.Mathlib.Omega.{arith}
-use lib.ListN.{length, take, drop, set, replicate}
+use lib.ListN.{length, take, drop, replicate}
 use lib.Seq.{take_all, take-append-le}
 use lib.Ieee as Ieee
 use lib.Ieee.{Float}
 use Rattle.definition.specs.Number.{minus, zero64}
-use Rattle.definition.specs.Vector.{tab, word, dot, difference, ◌and_then◌}
+use Rattle.definition.specs.Vector.{word, dot, difference, ◌and_then◌}
 use Rattle.definition.specs.Problem.{most_coordinates}
 use Rattle.definition.specs.Driver.{Ends}
 use Rattle.area.specs.Area.{Vecs, view, upd, difference_of, first_pair, vector_x, vector_g, vector_direction, vector_cauchy, vector_target}
 use Rattle.area.proofs.Laws.{part_lent, length-view}
-use Rattle.compact.proofs.Laws.{tab-length, set_pad, upd_twice}
+use Rattle.compact.proofs.Laws.{tab-length, upd_twice}
 use Rattle.subspace.specs.State.{Minimizes, ends_in, difference_array, direction_array, directed}
 
 -- both ends, where there is a minimum
@@ -27,24 +26,6 @@ pub both_ends_lem : {F : Option (List Float)} {a b : Vecs} {ok : Bool} → Minim
 both_ends_lem {a = a} {b = b} {ok = true} m = (λ k. Some (record { cauchy = m.cauchy k; target = b vector_target })) ∙ ap (both_ends (a vector_cauchy)) m.is
 both_ends_lem {a = a} {ok = false} m = ap (both_ends (a vector_cauchy)) m.is
 
--- ---- an array of a word for each coordinate that there may be, of which a loop fills the first n
-
-pub record Filled (most n : ℕ) (f : ℕ → Float) (b : List Float) (i : ℕ) : Type 0 where
-  pub upto : i ≤ n
-  pub within : n ≤ most
-  pub is : b ≡ tab i f ++ replicate (most - i) zero64
-
-pub filled_none : {most n : ℕ} {f : ℕ → Float} {b : List Float} → n ≤ most → b ≡ replicate most zero64 → Filled most n f b 0
-unfolding tab
-filled_none {most} h e =
-    let whole : most - 0 ≡ most = omega arith in
-    record { upto = omega arith; within = h; is = rw whole e }
-
-pub filled_more : {most n : ℕ} {f : ℕ → Float} {b : List Float} {i : ℕ} → Filled most n f b i → i < n → Filled most n f (set b i (f i)) (i + 1)
-filled_more {most} {n} {f} {b} {i} r h =
-    let q : most - i ≡ suc (most - suc i) = omega (arith, r.within) in
-    record { upto = omega arith; within = r.within; is = rw (add-one, r.is, q) (set_pad i (most - suc i) f zero64) }
-
 -- ---- the direction
 
 -- the part of the area that is vector p
@@ -52,17 +33,20 @@ abbrev lent : List Float → ℕ → ℕ → List Float
 lent a n p = take (p * n + n - p * n) (drop (p * n) a)
 
 -- the end that is lent is one of two vectors
-end_is : (t : Bool) (a : List Float) (n : ℕ) {e : List Float} → e ≡ cond t (lent a n vector_cauchy) (lent a n vector_target) → e ≡ cond t (view a n vector_cauchy) (view a n vector_target)
+end_is : (t : Bool) (a : List Float) (n : ℕ) {e : List Float} → e ≡ cond t (lent a n vector_cauchy) (lent a n vector_target)
+    → e ≡ cond t (view a n vector_cauchy) (view a n vector_target)
 end_is true a n d = d ∙ part_lent a vector_cauchy n
 end_is false a n d = d ∙ part_lent a vector_target n
 
-pub end_long : (t : Bool) (a : List Float) (n : ℕ) {e : List Float} → first_pair * n ≤ length a → e ≡ cond t (lent a n vector_cauchy) (lent a n vector_target) → length e ≡ n
+pub end_long : (t : Bool) (a : List Float) (n : ℕ) {e : List Float} → first_pair * n ≤ length a
+    → e ≡ cond t (lent a n vector_cauchy) (lent a n vector_target) → length e ≡ n
 end_long true a n l d = ap length (d ∙ part_lent a vector_cauchy n) ∙ length-view a n vector_cauchy (omega arith)
 end_long false a n l d = ap length (d ∙ part_lent a vector_target n) ∙ length-view a n vector_target (omega arith)
 
 -- what the array holds, made of the slices that are lent
-pub direction_is : (t : Bool) (a : List Float) (n : ℕ) {e w : List Float} → first_pair * n ≤ length a → e ≡ cond t (lent a n vector_cauchy) (lent a n vector_target)
-    → w ≡ difference_array (length e) e (lent a n vector_x) → w ≡ difference_array n (cond t (view a n vector_cauchy) (view a n vector_target)) (view a n vector_x)
+pub direction_is : (t : Bool) (a : List Float) (n : ℕ) {e w : List Float} → first_pair * n ≤ length a
+    → e ≡ cond t (lent a n vector_cauchy) (lent a n vector_target) → w ≡ difference_array (length e) e (lent a n vector_x)
+    → w ≡ difference_array n (cond t (view a n vector_cauchy) (view a n vector_target)) (view a n vector_x)
 direction_is t a n l d r = r ∙ (λ k. difference_array (end_long t a n l d k) (end_is t a n d k) (part_lent a vector_x n k))
 
 -- the words of the array that are stored
@@ -75,7 +59,8 @@ first_words n p q =
     ∙ take_all n (difference n p q) (omega (arith, long)))
 
 -- the difference to the target, its slope, then the difference to the end that it chooses
-pub directs : (n : ℕ) (a b : Vecs) {d : Vecs} {slope : Float} {w : List Float} → b ≡ difference_of n vector_direction vector_target vector_x a → slope ≡ dot n (b vector_g) (b vector_direction)
+pub directs : (n : ℕ) (a b : Vecs) {d : Vecs} {slope : Float} {w : List Float}
+    → b ≡ difference_of n vector_direction vector_target vector_x a → slope ≡ dot n (b vector_g) (b vector_direction)
     → w ≡ direction_array n slope b → d ≡ upd b vector_direction (take (n - 0) (drop 0 w)) → (f : Float) → d ≡ directed n f a
 unfolding difference_of
 directs n a b {d} {slope} {w} p q r s f =

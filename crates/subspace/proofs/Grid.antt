@@ -9,7 +9,7 @@ use lib.Seq.{get_or-append-add}
 use lib.Ieee.{Float, nan}
 use Rattle.definition.specs.Number.{plus, times, zero64, neg_zero}
 use Rattle.definition.specs.Vector.{tab, word, fold_to}
-use Rattle.definition.specs.Solve.{Matrix, row, entry, put}
+use Rattle.definition.specs.Solve.{Matrix, row, entry}
 use Rattle.definition.specs.Compact.{padded, zero_row, padded_rows}
 use Rattle.definition.specs.Geometry.{free_sum}
 use Rattle.area.specs.Area.{Vecs, fold_rows}
@@ -39,41 +39,29 @@ front_set (suc n) g x y r = ap (λ l. g zero ∷ l) (front_set n (λ (k : ℕ). 
 
 -- ---- a row of which each entry changes, and a matrix
 
-abbrev row_of : ℕ → (ℕ → Float → Float) → List Float → List Float
-row_of size f y = fold_to size (λ j b. set b j (f j (word b j))) y
-
-row_front : (n : ℕ) (f : ℕ → Float → Float) (g : ℕ → Float) (r : List Float) → row_of n f (tab n g ++ r) ≡ tab n (λ j. f j (g j)) ++ r
-unfolding fold_to
+row_front : (n : ℕ) (f : ℕ → Float → Float) (g : ℕ → Float) (r : List Float) → row_each n f (tab n g ++ r) ≡ tab n (λ j. f j (g j)) ++ r
+unfolding fold_to row_each
 row_front zero f g r = unfold tab in refl
 row_front (suc n) f g r =
     let s : List Float → List Float = λ b. set b n (f n (word b n)) in
     let done : ℕ → Float = λ j. f j (g j) in
-    ap (λ l. s (row_of n f l)) (tab_front n g r)
+    ap (λ l. s (row_each n f l)) (tab_front n g r)
     ∙ ap s (row_front n f g (g n ∷ r))
     ∙ ap (λ x. set (tab n done ++ (g n ∷ r)) n (f n x)) (front_get n done (g n) r nan)
     ∙ front_set n done (f n (g n)) (g n) r
     ∙ sym (tab_front n done r)
 
--- row n of a matrix
-row_in : (m : ℕ) (f : ℕ → Float → Float) (n : ℕ) (g : ℕ → List Float) (y : List Float) (r : Matrix)
-    → fold_to m (λ j c. put c n j (f j (entry c n j))) (tab n g ++ (y ∷ r)) ≡ tab n g ++ (row_of m f y ∷ r)
-unfolding fold_to
-row_in zero f n g y r = refl
-row_in (suc m) f n g y r =
-    let z = row_of m f y in
-    ap (λ c. put c n m (f m (entry c n m))) (row_in m f n g y r)
-    ∙ ap (λ b. set (tab n g ++ (z ∷ r)) n (set b m (f m (word b m)))) (front_get n g z r [])
-    ∙ front_set n g (set z m (f m (word z m))) z r
-
 rows_front : (size : ℕ) (f : ℕ → ℕ → Float → Float) (n : ℕ) (g : ℕ → List Float) (r : Matrix)
-    → fold_to n (λ i c. row_each size (f i) i c) (tab n g ++ r) ≡ tab n (λ i. row_of size (f i) (g i)) ++ r
-unfolding fold_to row_each
+    → fold_to n (λ i c. set c i (row_each size (f i) (row c i))) (tab n g ++ r) ≡ tab n (λ i. row_each size (f i) (g i)) ++ r
+unfolding fold_to
 rows_front size f zero g r = unfold tab in refl
 rows_front size f (suc n) g r =
-    let done : ℕ → List Float = λ i. row_of size (f i) (g i) in
-    ap (λ l. row_each size (f n) n (fold_to n (λ i c. row_each size (f i) i c) l)) (tab_front n g r)
-    ∙ ap (row_each size (f n) n) (rows_front size f n g (g n ∷ r))
-    ∙ row_in size (f n) n done (g n) r
+    let s : Matrix → Matrix = λ c. set c n (row_each size (f n) (row c n)) in
+    let done : ℕ → List Float = λ i. row_each size (f i) (g i) in
+    ap (λ l. s (fold_to n (λ i c. set c i (row_each size (f i) (row c i))) l)) (tab_front n g r)
+    ∙ ap s (rows_front size f n g (g n ∷ r))
+    ∙ ap (λ x. set (tab n done ++ (g n ∷ r)) n (row_each size (f n) x)) (front_get n done (g n) r [])
+    ∙ front_set n done (row_each size (f n) (g n)) (g n) r
     ∙ sym (tab_front n done r)
 
 pub each_grid : (size : ℕ) (f : ℕ → ℕ → Float → Float) (g : ℕ → ℕ → Float) → each size f (grid size g) ≡ grid size (λ i j. f i j (g i j))
@@ -139,23 +127,23 @@ rows-more size p r a =
     (ap (λ (x : List Float). each size (product_to x) (fold_to n (λ t b. each size (product_to (row (p ++ (r ∷ [])) t)) b) a)) last
     ∙ ap (each size (product_to r)) (fold_same n _ _ a (λ t b k. ap (λ (x : List Float). each size (product_to x) b) (get_or-append p (r ∷ []) [] t k))))
 
-abbrev Pushes : Shape → (ℕ → Float) → Matrix → Matrix → Matrix → Matrix → Type 0
-Pushes h w p a q b = Held (2 * h.pairs) q b × (add_rows (2 * h.pairs) q b ≡ add_free h w (add_rows (2 * h.pairs) p a))
+abbrev AddsCoordinate : Shape → (ℕ → Float) → Matrix → Matrix → Matrix → Matrix → Type 0
+AddsCoordinate h w p a q b = Held (2 * h.pairs) q b × (add_rows (2 * h.pairs) q b ≡ add_free h w (add_rows (2 * h.pairs) p a))
 
 module _ (h : Shape) (w : ℕ → Float) (p : Matrix) (a : Matrix) {r : List Float} {q : Matrix} (free : free_in w ≡ true) (columns : r ≡ columns_in h w)
     (held : Held (2 * h.pairs) p a) (more : q ≡ p ++ (r ∷ [])) where
-  pushed : each (2 * h.pairs) (product_to r) (add_rows (2 * h.pairs) p a) ≡ add_free h w (add_rows (2 * h.pairs) p a)
-  pushed = rw free (ap (λ (x : List Float). each (2 * h.pairs) (product_to x) (add_rows (2 * h.pairs) p a)) columns)
+  row_added : each (2 * h.pairs) (product_to r) (add_rows (2 * h.pairs) p a) ≡ add_free h w (add_rows (2 * h.pairs) p a)
+  row_added = rw free (ap (λ (x : List Float). each (2 * h.pairs) (product_to x) (add_rows (2 * h.pairs) p a)) columns)
 
-  pub push_more : length q < 4 → Pushes h w p a q a
-  push_more l = (
+  pub joins_batch : length q < 4 → AddsCoordinate h w p a q a
+  joins_batch l = (
     record { few = l; shaped = held.shaped },
-    rw more (rows-more (2 * h.pairs) p r a) ∙ pushed,
+    rw more (rows-more (2 * h.pairs) p r a) ∙ row_added,
   )
 
-  pub push_four : (b : Matrix) → length q ≡ 4 → b ≡ each (2 * h.pairs) (four_to q) a → Pushes h w p a [] b
+  pub fills_batch : (b : Matrix) → length q ≡ 4 → b ≡ each (2 * h.pairs) (four_to q) a → AddsCoordinate h w p a [] b
   unfolding fold_to
-  push_four b l s =
+  fills_batch b l s =
       let size = 2 * h.pairs in (
         record {
           few = omega arith;
@@ -165,7 +153,7 @@ module _ (h : Shape) (w : ℕ → Float) (p : Matrix) (a : Matrix) {r : List Flo
             ∙ four_is size q a held.shaped
             ∙ ap (λ (m : ℕ). fold_to m (λ t b. each size (product_to (row q t)) b) a) (sym l)
             ∙ rw more (rows-more size p r a)
-            ∙ pushed,
+            ∙ row_added,
       )
 
 -- before the first coordinate
@@ -213,5 +201,5 @@ reduced_are {m} {v} a r e s =
     ∙ grid_same size _ _ (λ i j k l. reduced_is i j _ r k l refl))
 
 -- the sums where there is no term
-pub start_is : (size : ℕ) (a : Matrix) → size ≤ 32 → a ≡ replicate 32 zero_row → each size (λ i j x. neg_zero) a ≡ grid size (λ i j. neg_zero)
-start_is size a h e = ap (each size (λ i j x. neg_zero)) (e ∙ sym (grid_zeros size h)) ∙ each_grid size (λ i j x. neg_zero) (λ i j. zero64)
+pub empty_sums_are : (size : ℕ) (a : Matrix) → size ≤ 32 → a ≡ replicate 32 zero_row → each size (λ i j x. neg_zero) a ≡ grid size (λ i j. neg_zero)
+empty_sums_are size a h e = ap (each size (λ i j x. neg_zero)) (e ∙ sym (grid_zeros size h)) ∙ each_grid size (λ i j x. neg_zero) (λ i j. zero64)

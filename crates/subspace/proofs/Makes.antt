@@ -21,7 +21,7 @@ use Rattle.compact.specs.State.{compact_of, Modelled, Multiplied}
 use Rattle.compact.proofs.Laws.{tab-get, tab_same, pairs_count}
 use Rattle.compact.proofs.Models.{compact_kept, compact_upd, modelled_kept, modelled_upd}
 use Rattle.subspace.specs.State.{plain_in, weighted_in, moved_in, any_free_at, weights_at, product_at, residual_from, residual_at}
-use Rattle.subspace.specs.State.{corrections_at, steps_at, moved_at, moved_by_at, on_free_at, minimum_at, Makes}
+use Rattle.subspace.specs.State.{corrections_at, steps_at, moved_at, moved_by_share_at, free_minimum_at, minimum_at, Makes}
 
 scratch_by : {a b : Vecs} (p : ℕ) (x : List Float) → 8 ≤ p → p < first_free → b ≡ upd a p x → ScratchOnly a b
 scratch_by p x l h e = rw e (scratch_upd p x l h scratch_refl)
@@ -94,18 +94,19 @@ no_residual h theta a b d ok e m t =
     }
 
 pub a_residual : (h : Shape) (theta : Float) (a b d r : Vecs) (ok : Bool) → b ≡ difference_of h.n vector_displacement vector_cauchy vector_x a
-    → Multiplied h theta vector_product_z vector_displacement b ok d → not ok ≡ false → r ≡ rowwise h.n vector_product_d (λ (i : ℕ) w. plus (w vector_product_z) (w vector_g)) d
-    → Makes vector_product_d (residual_at h theta a) a true r
+    → Multiplied h theta vector_product_z vector_displacement b ok d → not ok ≡ false
+    → r ≡ rowwise h.n vector_product_d (λ (i : ℕ) w. plus (w vector_product_z) (w vector_g)) d → Makes vector_product_d (residual_at h theta a) a true r
 unfolding rowwise
 a_residual h theta a b d r ok e m t f =
     let k = after_product h theta a b d ok e m in
+    let x = tab h.n (λ (i : ℕ). plus (word (d vector_product_z) i) (word (d vector_g) i)) in
     record {
       is =
           (λ j. Some (f j vector_product_d))
           ∙ ap (λ (g : List Float). Some (tab h.n (λ (i : ℕ). plus (word (d vector_product_z) i) (word g i)))) k.0
           ∙ ap (residual_from h.n (a vector_g)) (has ok (d vector_product_z) (product_is h theta a b d ok e m) t);
       cauchy = (λ j. f j vector_cauchy) ∙ k.1;
-      kept = scratch_trans k.2 (scratch_by vector_product_d (tab h.n (λ (i : ℕ). plus (word (d vector_product_z) i) (word (d vector_g) i))) (omega arith) (omega arith) f);
+      kept = scratch_trans k.2 (scratch_by vector_product_d x (omega arith) (omega arith) f);
     }
 
 -- ---- the steps
@@ -135,18 +136,19 @@ pub no_steps : (h : Shape) (theta : Float) (a : Vecs) → weighted_at h theta a 
 no_steps h theta a e = record { is = e; cauchy = refl; kept = scratch_refl }
 
 pub with_steps : (h : Shape) (theta : Float) (a b d : Vecs) (z : List Float) → weighted_at h theta a (Some z) ≡ steps_at h theta a
-    → b ≡ upd a vector_step (corrections_at h theta a z) → d ≡ rowwise h.n vector_step (λ (i : ℕ). weighted_in theta) b → Makes vector_step (steps_at h theta a) a true d
+    → b ≡ upd a vector_step (corrections_at h theta a z) → d ≡ rowwise h.n vector_step (λ (i : ℕ). weighted_in theta) b
+    → Makes vector_step (steps_at h theta a) a true d
 unfolding rowwise
 with_steps h theta a b d z e f g =
     let c = correction (compact_of h theta a) z in
+    let step : Float → Float → Float = λ r s. over (Ieee.neg (plus r (over s theta))) theta in
     record {
       is =
           (λ k. Some (g k vector_step))
           ∙ (λ k. Some (tab h.n (λ (i : ℕ). weighted_in theta (λ (q : ℕ). word (f k q) i))))
           ∙ ap Some
           (tab_same h.n _ _
-          (λ i l k. cond (free (bounds_of a) (a vector_cauchy) i) (over (Ieee.neg (plus (word (a vector_product_d) i) (over (tab-get h.n c i nan l k) theta))) theta)
-          zero64))
+          (λ i l k. cond (free (bounds_of a) (a vector_cauchy) i) (step (word (a vector_product_d) i) (tab-get h.n c i nan l k)) zero64))
           ∙ e;
       cauchy = (λ k. g k vector_cauchy) ∙ (λ k. f k vector_cauchy);
       kept =
@@ -164,21 +166,24 @@ pub model_kept : {p : ℕ} {F : Option (List Float)} {m : Model} {a b : Vecs} {o
 model_kept {b = b} k r = modelled_kept b k.kept.high r
 
 from_residual : (h : Shape) (theta : Float) (a b : Vecs) (ok : Bool) → Makes vector_product_d (residual_at h theta a) a ok b → not ok ≡ false
-    → (steps_at h theta b and_then moved_by h.n (bounds_of b) (b vector_cauchy)) ≡ on_free_at h theta a
+    → (steps_at h theta b and_then moved_by h.n (bounds_of b) (b vector_cauchy)) ≡ free_minimum_at h theta a
 from_residual h theta a b ok m t =
     (λ k. on_free h.n (bounds_kept m k) (m.cauchy k) (compact_kept h theta a b m.kept.high k) (b vector_product_d))
     ∙ ap (λ (o : Option (List Float)). o and_then on_free h.n (bounds_of a) (a vector_cauchy) (compact_of h theta a)) (has ok (b vector_product_d) m.is t)
 
 pub without_steps : (h : Shape) (theta : Float) (a b d : Vecs) (ok made : Bool) → Makes vector_product_d (residual_at h theta a) a ok b → not ok ≡ false
-    → Makes vector_step (steps_at h theta b) b made d → not made ≡ true → Makes vector_target (on_free_at h theta a) a false d
+    → Makes vector_step (steps_at h theta b) b made d → not made ≡ true → Makes vector_target (free_minimum_at h theta a) a false d
 without_steps h theta a b d ok made m t s u = record {
-  is = ap (λ (o : Option (List Float)). o and_then moved_by h.n (bounds_of b) (b vector_cauchy)) (lacks made (d vector_step) s.is u) ∙ from_residual h theta a b ok m t;
+  is =
+      ap (λ (o : Option (List Float)). o and_then moved_by h.n (bounds_of b) (b vector_cauchy)) (lacks made (d vector_step) s.is u)
+      ∙ from_residual h theta a b ok m t;
   cauchy = s.cauchy ∙ m.cauchy;
   kept = scratch_trans m.kept s.kept;
 }
 
 pub targets : (h : Shape) (theta : Float) (a b d e : Vecs) (ok made r : Bool) → Makes vector_product_d (residual_at h theta a) a ok b → not ok ≡ false
-    → Makes vector_step (steps_at h theta b) b made d → not made ≡ false → Makes vector_target (moved_by_at h.n d) d r e → Makes vector_target (on_free_at h theta a) a r e
+    → Makes vector_step (steps_at h theta b) b made d → not made ≡ false → Makes vector_target (moved_by_share_at h.n d) d r e
+    → Makes vector_target (free_minimum_at h theta a) a r e
 targets h theta a b d e ok made r m t s u v = record {
   is =
       v.is
@@ -191,7 +196,8 @@ targets h theta a b d e ok made r m t s u v = record {
 
 -- ---- the minimum
 
-pub minimum_free : (h : Shape) (theta : Float) (a b : Vecs) (t ok : Bool) → t ≡ any_free_at h.n a → t ≡ true → Makes vector_target (on_free_at h theta a) a ok b
+pub minimum_free : (h : Shape) (theta : Float) (a b : Vecs) (t ok : Bool) → t ≡ any_free_at h.n a → t ≡ true
+    → Makes vector_target (free_minimum_at h theta a) a ok b
     → Makes vector_target (minimum_at h theta a) a ok b
 unfolding primal_minimize
 minimum_free h theta a b t ok e d m = makes_as (rw (sym e ∙ d)) m

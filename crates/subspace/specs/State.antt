@@ -1,16 +1,18 @@
 -- The minimum over the free coordinates of the Cauchy point, and the direction to the chosen end, read off the area.
-use Rattle.std.specs.Prelude.{ℕ, ◌-◌, ◌*◌, ◌<◌, ◌≡◌, Bool, cond, ◌&&◌, List, ◌++◌, length, replicate, Float}
+use Rattle.std.specs.Prelude.{ℕ, set, ◌-◌, ◌*◌, ◌<◌, ◌≡◌, Bool, cond, ◌&&◌, List, ◌++◌, length, replicate, Float}
 use Rattle.std.specs.Prelude.{Option, Some}
 use Rattle.std.specs.Float.Ieee as Ieee
 use Rattle.definition.specs.Number.{plus, minus, times, over, min, clamp, zero64}
 use Rattle.definition.specs.Vector.{tab, word, fold_to, difference, ◌and_then◌}
 use Rattle.definition.specs.Problem.{most_coordinates}
-use Rattle.definition.specs.Solve.{Matrix, row, entry, put, solve}
+use Rattle.definition.specs.Solve.{Matrix, row, entry, solve}
 use Rattle.definition.specs.Compact.{count, padded, zero_row, padded_rows, product}
-use Rattle.definition.specs.Geometry.{any_free, free_sum, reduced_entry, reduced_right, correction, steps_of, share_of, moved, moved_by, on_free, primal_minimize}
+use Rattle.definition.specs.Geometry.{any_free, free_sum, reduced_entry, reduced_right, correction, steps_of, share_of}
+use Rattle.definition.specs.Geometry.{moved, moved_by, on_free, primal_minimize}
 use Rattle.definition.specs.Machine.{state}
 use Rattle.definition.specs.Driver.{Ends, chosen_end}
-use Rattle.area.specs.Area.{Vecs, view, bounds_of, upd, given, ScratchOnly, vector_x, vector_g, vector_lower, vector_upper, vector_direction, vector_cauchy, vector_target, vector_product_d, vector_step}
+use Rattle.area.specs.Area.{Vecs, view, bounds_of, upd, given, ScratchOnly, vector_x, vector_g, vector_lower, vector_upper}
+use Rattle.area.specs.Area.{vector_direction, vector_cauchy, vector_target, vector_product_d, vector_step}
 use Rattle.compact.specs.declared.Shape.{Shape}
 use Rattle.compact.specs.declared.Model.{Model}
 use Rattle.subspace.specs.declared.Coordinate.{Coordinate}
@@ -35,6 +37,9 @@ shortened_of k step alpha =
 abbrev pub shared_of : Coordinate → Float → Float → Float
 shared_of k step alpha = cond (free_of k) (shortened_of k step alpha) alpha
 
+abbrev pub free_step_of : Coordinate → Float → Float
+free_step_of k step = cond (free_of k) step zero64
+
 abbrev pub moved_of : Coordinate → Float → Float → Float
 moved_of k step alpha = cond (free_of k) (clamp (plus k.cauchy (times alpha step)) k.lower k.upper) k.cauchy
 
@@ -54,20 +59,12 @@ free_term p q w s = cond (free_in w) (plus s (times (w p) (w q))) s
 abbrev pub columns_in : Shape → (ℕ → Float) → List Float
 columns_in h w = padded zero64 (2 * h.pairs) (λ j. w (column_slot h j))
 
--- f of the residual and of what stands in the step's place, where the coordinate is free
-abbrev pub free_step_in : (Float → Float → Float) → (ℕ → Float) → Float
-free_step_in f w = cond (free_in w) (f (w vector_product_d) (w vector_step)) zero64
-
--- a call of a closure, of which P is what it may return, gives f
-abbrev pub ComputesStep : (Float → Float → Float → Type 0) → (Float → Float → Float) → Type 0
-ComputesStep P f = (r s y : Float) → P r s y → y ≡ f r s
-
 -- the step that the residual asks for, and with what the columns add to it
 abbrev pub plain_in : Float → (ℕ → Float) → Float
-plain_in theta = free_step_in (λ r s. over (Ieee.neg r) theta)
+plain_in theta w = free_step_of (coordinate_of w) (over (Ieee.neg (w vector_product_d)) theta)
 
 abbrev pub weighted_in : Float → (ℕ → Float) → Float
-weighted_in theta = free_step_in (λ r s. over (Ieee.neg (plus r (over s theta))) theta)
+weighted_in theta w = free_step_of (coordinate_of w) (over (Ieee.neg (plus (w vector_product_d) (over (w vector_step) theta))) theta)
 
 abbrev pub share_in : (ℕ → Float) → Float → Float
 share_in w alpha = shared_of (coordinate_of w) (w vector_step) alpha
@@ -80,12 +77,12 @@ moved_in alpha w = moved_of (coordinate_of w) (w vector_step) alpha
 abbrev pub grid : ℕ → (ℕ → ℕ → Float) → Matrix
 grid size f = padded zero_row size (λ i. padded zero64 size (f i))
 
--- each entry x of row i, in column j, becomes f j x; and each of every row, f i j x
-unfoldable pub row_each : ℕ → (ℕ → Float → Float) → ℕ → Matrix → Matrix
-row_each size f i a = fold_to size (λ j c. put c i j (f j (entry c i j))) a
+-- each entry x of a row, in column j, becomes f j x; and each of every row i, f i j x
+unfoldable pub row_each : ℕ → (ℕ → Float → Float) → List Float → List Float
+row_each size f r = fold_to size (λ j b. set b j (f j (word b j))) r
 
 unfoldable pub each : ℕ → (ℕ → ℕ → Float → Float) → Matrix → Matrix
-each size f a = fold_to size (λ i c. row_each size (f i) i c) a
+each size f a = fold_to size (λ i c. set c i (row_each size (f i) (row c i))) a
 
 -- a closure may be called at each place, and a call, of which P is what it may return, gives f
 abbrev pub CallableWithin : (ℕ → ℕ → Float → Type 0) → Type 0
@@ -162,11 +159,11 @@ share_at n v = share_of n (bounds_of v) (v vector_cauchy) (v vector_step)
 abbrev pub moved_at : ℕ → Vecs → Float → Option (List Float)
 moved_at n v alpha = moved n (bounds_of v) (v vector_cauchy) (v vector_step) alpha
 
-abbrev pub moved_by_at : ℕ → Vecs → Option (List Float)
-moved_by_at n v = moved_by n (bounds_of v) (v vector_cauchy) (v vector_step)
+abbrev pub moved_by_share_at : ℕ → Vecs → Option (List Float)
+moved_by_share_at n v = moved_by n (bounds_of v) (v vector_cauchy) (v vector_step)
 
-abbrev pub on_free_at : Shape → Float → Vecs → Option (List Float)
-on_free_at h theta v = residual_at h theta v and_then on_free h.n (bounds_of v) (v vector_cauchy) (compact_of h theta v)
+abbrev pub free_minimum_at : Shape → Float → Vecs → Option (List Float)
+free_minimum_at h theta v = residual_at h theta v and_then on_free h.n (bounds_of v) (v vector_cauchy) (compact_of h theta v)
 
 abbrev pub minimum_at : Shape → Float → Vecs → Option (List Float)
 minimum_at h theta v = primal_minimize h.n (bounds_of v) (compact_of h theta v) (v vector_x) (v vector_g) (v vector_cauchy)

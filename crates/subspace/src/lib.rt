@@ -8,16 +8,17 @@ ghost use Rattle.definition.specs.Problem.{most_coordinates};
 ghost use Rattle.definition.specs.Compact.{padded_rows};
 ghost use Rattle.area.specs.Area.{view, upd, words_at, rowwise, first_pair, vector_target, vector_product_d, vector_product_z, vector_step, vector_g};
 ghost use Rattle.compact.specs.State.{compact_of, column_slot, Sound};
-ghost use Rattle.subspace.specs.State.{Ready, coordinate_of, free_of, shortened_of, shared_of, moved_of, free_step_in, ComputesStep};
+ghost use Rattle.subspace.specs.State.{Ready, coordinate_of, free_of, shortened_of, shared_of, free_step_of, moved_of};
 ghost use Rattle.subspace.specs.State.{columns_in, grid, row_each, each, CallableWithin, Computes, product_to, four_to, add_rows, Held, add_free};
 ghost use Rattle.subspace.specs.State.{difference_array, direction_array, directed, Makes, Minimizes};
 ghost use Rattle.subspace.specs.State.{any_free_at, free_sum_at, reduced_at, right_at, weights_at};
-ghost use Rattle.subspace.specs.State.{residual_at, corrections_at, steps_at, share_at, moved_at, moved_by_at, on_free_at, minimum_at};
+ghost use Rattle.subspace.specs.State.{residual_at, corrections_at, steps_at, share_at, moved_at, moved_by_share_at, free_minimum_at, minimum_at};
 
 use arrayvec::ArrayVec;
 use solve::{Matrix, Row, SIZE};
 
 // A coordinate of the Cauchy point, and its bounds.
+// Kept: apart from cauchy's Coordinate, of x, g and the bounds. One type of both would carry words that half of its methods never read.
 #[derive(Clone, Copy)]
 pub struct Coordinate {
     pub cauchy: f64,
@@ -58,6 +59,13 @@ impl Coordinate {
         alpha
     }
 
+    // The step of it where it is free, and else 0.
+    fn free_step(self, step: f64) -> f64
+        ensures { result ≡ free_step_of self step }
+    {
+        if self.is_free() { step } else { 0.0 }
+    }
+
     // Its word of the target.
     fn moved(self, step: f64, alpha: f64) -> f64
         ensures { result ≡ moved_of self step alpha }
@@ -94,30 +102,29 @@ fn free_sum(area: &[f64], n: usize, left: usize, right: usize) -> f64
     requires { (first_pair * n ≤ length area.now) × (left * n + n ≤ length area.now) × (right * n + n ≤ length area.now) }
     ensures { result ≡ free_sum_at n (view area.now n) left right }
 {
-    let mut sum = float::NEG_ZERO;
-    for i in 0..n {
-        if coordinate_at(area, n, i).is_free() {
-            sum += area[left * n + i] * area[right * n + i];
-        }
-    }
-    sum
+    (0..n)
+        .filter(|&i| coordinate_at(area, n, i).is_free())
+        .map(|i| area[left * n + i] * area[right * n + i])
+        .sum()
 }
 
 // ---- the residual B (cauchy - x) + g
 
 // The product with the displacement, and the gradient.
-// Kept: an index. What is read and what is written stand in one lent slice.
 fn add_gradient(area: &mut [f64], n: usize)
     requires { first_pair * n ≤ length area.old }
     ensures { view area.new n ≡ rowwise n vector_product_d (λ (i : ℕ) w. plus (w vector_product_z) (w vector_g)) (view area.old n) }
 {
-    for i in 0..n {
-        area[area::PRODUCT_D * n + i] = area[area::PRODUCT_Z * n + i] + area[area::G * n + i];
-    }
+    area::set_each(
+        area,
+        n,
+        area::PRODUCT_D,
+        |area, i| area[area::PRODUCT_Z * n + i] + area[area::G * n + i],
+    );
 }
 
 // The residual in its vector; false where there is no product with the displacement.
-// Kept: the residual stands in the lent area, as what the functions below make, so a bool says whether it is there.
+// Kept: fixed memory. The residual stands in the lent area, so a bool says whether it is there.
 fn residual(area: &mut [f64], model: &compact::Model) -> bool
     requires { Ready model.now area.old }
     ensures { let h = model.now.shape in
@@ -135,31 +142,31 @@ fn residual(area: &mut [f64], model: &compact::Model) -> bool
 
 // ---- the reduced system
 
-// Each of the first size entries of row i becomes what `change` makes of its place and itself.
-fn change_row<F: Fn(usize, usize, f64) -> f64>(sums: &mut Matrix, size: usize, i: usize, change: &F)
+// Each of the first size entries of the row, which is row i, becomes what `change` makes of its place and itself.
+fn change_row<F: Fn(usize, usize, f64) -> f64>(row: &mut Row, size: usize, i: usize, change: &F)
     requires callable { CallableWithin (F.pre change.now) }
-    requires room { (i < size) × (size ≤ 32) }
-    ensures { (f : ℕ → ℕ → Float → Float) → Computes (F.post change.now) f → sums.new ≡ row_each size (f i) i sums.old }
+    requires room { (i < size) × (size ≤ SIZE) }
+    ensures { (f : ℕ → ℕ → Float → Float) → Computes (F.post change.now) f → row.new ≡ row_each size (f i) row.old }
 {
-    for j in 0..size {
-        sums[i][j] = change(i, j, sums[i][j]);
+    for (j, sum) in row[0..size].iter_mut().enumerate() {
+        *sum = change(i, j, *sum);
     }
 }
 
 // Each of the first size entries of the first size rows becomes what `change` makes of its place and itself.
 fn change_each<F: Fn(usize, usize, f64) -> f64>(sums: &mut Matrix, size: usize, change: F)
     requires callable { CallableWithin (F.pre change) }
-    requires room { size ≤ 32 }
+    requires room { size ≤ SIZE }
     ensures { (f : ℕ → ℕ → Float → Float) → Computes (F.post change) f → sums.new ≡ each size f sums.old }
 {
-    for i in 0..size {
-        change_row(sums, size, i, &change);
+    for (i, row) in sums[0..size].iter_mut().enumerate() {
+        change_row(row, size, i, &change);
     }
 }
 
 // The sums where there is no term: -0.0 in the first size places of the first size rows.
-fn start(size: usize) -> Matrix
-    requires { size ≤ 32 }
+fn empty_sums(size: usize) -> Matrix
+    requires { size ≤ SIZE }
     ensures { result ≡ grid size (λ i j. neg_zero) }
 {
     let mut sums = [[0.0; SIZE]; SIZE];
@@ -173,15 +180,15 @@ fn gather(area: &[f64], shape: compact::Shape, i: usize) -> Row
     ensures { result ≡ columns_in shape (words_at area.now shape.n i) }
 {
     let mut row = [0.0; SIZE];
-    for j in 0..2 * shape.pairs {
-        row[j] = area::get(area, shape.n, compact::column_slot(shape, j), i);
+    for (j, word) in row[0..2 * shape.pairs].iter_mut().enumerate() {
+        *word = area::get(area, shape.n, compact::column_slot(shape, j), i);
     }
     row
 }
 
 // The sums, and the products of any two words of each of the four rows of the batch: a sum is loaded and stored once for the four.
 fn add_fours(sums: &mut Matrix, size: usize, batch: &[Row])
-    requires { (size ≤ 32) × (length batch.now ≡ 4) }
+    requires { (size ≤ SIZE) × (length batch.now ≡ 4) }
     ensures { sums.new ≡ each size (four_to batch.now) sums.old }
 {
     change_each(sums, size, |i, j, sum| {
@@ -194,7 +201,7 @@ fn add_fours(sums: &mut Matrix, size: usize, batch: &[Row])
 
 // The sums, and the products of any two words of the row.
 fn add_row(sums: &mut Matrix, size: usize, row: &Row)
-    requires { size ≤ 32 }
+    requires { size ≤ SIZE }
     ensures { sums.new ≡ each size (product_to row.now) sums.old }
 {
     change_each(sums, size, |i, j, sum| sum + row[i] * row[j]);
@@ -202,7 +209,7 @@ fn add_row(sums: &mut Matrix, size: usize, row: &Row)
 
 // The sums, and the products of any two words of each row of the batch.
 fn add_rest(sums: &mut Matrix, size: usize, batch: &[Row])
-    requires { size ≤ 32 }
+    requires { size ≤ SIZE }
     ensures { sums.new ≡ add_rows size batch.now sums.old }
 {
     for row in batch {
@@ -211,7 +218,7 @@ fn add_rest(sums: &mut Matrix, size: usize, batch: &[Row])
 }
 
 // The columns at coordinate i join the batch where it is free, and a full batch is added to the sums.
-fn push(
+fn add_coordinate(
     sums: &mut Matrix,
     batch: &mut ArrayVec<Row, 4>,
     area: &[f64],
@@ -240,10 +247,10 @@ fn sums(area: &[f64], shape: compact::Shape) -> Matrix
         result ≡ grid (2 * shape.pairs) (λ i j. free_sum_at shape.n v (column_slot shape i) (column_slot shape j)) }
 {
     let size = 2 * shape.pairs;
-    let mut sums = start(size);
+    let mut sums = empty_sums(size);
     let mut batch = ArrayVec::new();
     for i in 0..shape.n {
-        push(&mut sums, &mut batch, area, shape, i);
+        add_coordinate(&mut sums, &mut batch, area, shape, i);
     }
     add_rest(&mut sums, size, batch.as_slice());
     sums
@@ -257,12 +264,10 @@ fn reduced(area: &[f64], model: &compact::Model) -> Matrix
         result ≡ padded_rows (compact_of h model.now.theta v) (reduced_at h model.now.theta v) }
 {
     let mut matrix = sums(area, model.shape);
-    let block = &model.block;
-    let theta = model.theta;
     change_each(
         &mut matrix,
         2 * model.shape.pairs,
-        |i, j, sum| block[i][j] - sum / theta,
+        |i, j, sum| model.block[i][j] - sum / model.theta,
     );
     matrix
 }
@@ -274,8 +279,8 @@ fn reduced_right(area: &[f64], model: &compact::Model) -> Row
 {
     let shape = model.shape;
     let mut right = [0.0; SIZE];
-    for i in 0..2 * shape.pairs {
-        right[i] = free_sum(
+    for (i, product) in right[0..2 * shape.pairs].iter_mut().enumerate() {
+        *product = free_sum(
             area,
             shape.n,
             compact::column_slot(shape, i),
@@ -290,22 +295,26 @@ fn weights(area: &[f64], model: &compact::Model) -> Option<Row>
     requires { Ready model.now area.now }
     ensures { let h = model.now.shape in result ≡ weights_at h model.now.theta (view area.now h.n) }
 {
-    let matrix = reduced(area, model);
-    let right = reduced_right(area, model);
-    solve::solve(2 * model.shape.pairs, matrix, right)
+    solve::solve(
+        2 * model.shape.pairs,
+        reduced(area, model),
+        reduced_right(area, model),
+    )
 }
 
 // ---- the step over the free coordinates
 
 // The step becomes itself and vector `from` times the factor.
-// Kept: an index. What is read and what is written stand in one lent slice.
 fn add_column(area: &mut [f64], n: usize, from: usize, factor: f64)
     requires { (first_pair * n ≤ length area.old) × (from * n + n ≤ length area.old) }
     ensures { view area.new n ≡ rowwise n vector_step (λ (i : ℕ) v. plus (v vector_step) (times (v from) factor)) (view area.old n) }
 {
-    for i in 0..n {
-        area[area::STEP * n + i] += area[from * n + i] * factor;
-    }
+    area::set_each(
+        area,
+        n,
+        area::STEP,
+        |area, i| area[area::STEP * n + i] + area[from * n + i] * factor,
+    );
 }
 
 // The step becomes what the columns with the weights add to the residual.
@@ -317,35 +326,13 @@ fn corrections(area: &mut [f64], model: &compact::Model, weights: Row)
 {
     let shape = model.shape;
     area::fill(area, shape.n, area::STEP, float::NEG_ZERO);
-    for column in 0..2 * shape.pairs {
-        add_column(
-            area,
-            shape.n,
-            compact::column_slot(shape, column),
-            weights[column],
-        );
-    }
-}
-
-// Each free coordinate's step becomes what `step` makes of its residual and of what stands there, and that of the others 0.
-// Kept: an index. What is read and what is written stand in one lent slice.
-fn free_steps<F: Fn(f64, f64) -> f64>(area: &mut [f64], n: usize, step: F)
-    requires callable { F.IsAlwaysCallable step }
-    requires room { first_pair * n ≤ length area.old }
-    ensures { (f : Float → Float → Float) → ComputesStep (F.post step) f
-        → view area.new n ≡ rowwise n vector_step (λ (i : ℕ). free_step_in f) (view area.old n) }
-{
-    for i in 0..n {
-        area[area::STEP * n + i] = if coordinate_at(area, n, i).is_free() {
-            step(area[area::PRODUCT_D * n + i], area[area::STEP * n + i])
-        } else {
-            0.0
-        };
+    for (column, &weight) in weights[0..2 * shape.pairs].iter().enumerate() {
+        add_column(area, shape.n, compact::column_slot(shape, column), weight);
     }
 }
 
 // The steps, by the reduced system's weights where there are pairs.
-// Kept: the steps stand in the lent area.
+// Kept: fixed memory. The steps stand in the lent area, so a bool says whether they are there.
 fn steps(area: &mut [f64], model: &compact::Model) -> bool
     requires { Ready model.now area.old }
     ensures { let h = model.now.shape in
@@ -355,18 +342,23 @@ fn steps(area: &mut [f64], model: &compact::Model) -> bool
     let n = model.shape.n;
     let theta = model.theta;
     if model.shape.pairs == 0 {
-        free_steps(area, n, |residual, _| -residual / theta);
+        area::set_each(
+            area,
+            n,
+            area::STEP,
+            |area, i| coordinate_at(area, n, i).free_step(-area[area::PRODUCT_D * n + i] / theta),
+        );
         return true;
     }
     let Some(weights) = weights(area, model) else {
         return false;
     };
     corrections(area, model, weights);
-    free_steps(
-        area,
-        n,
-        |residual, correction| -(residual + correction / theta) / theta,
-    );
+    area::set_each(area, n, area::STEP, |area, i| {
+        let residual = area[area::PRODUCT_D * n + i];
+        let correction = area[area::STEP * n + i];
+        coordinate_at(area, n, i).free_step(-(residual + correction / theta) / theta)
+    });
     true
 }
 
@@ -377,33 +369,32 @@ fn share(area: &[f64], n: usize) -> f64
     requires { first_pair * n ≤ length area.now }
     ensures { result ≡ share_at n (view area.now n) }
 {
-    let mut alpha = 1.0;
-    for i in 0..n {
-        alpha = coordinate_at(area, n, i).share(area[area::STEP * n + i], alpha);
-    }
-    alpha
+    (0..n).fold(
+        1.0,
+        |alpha, i| coordinate_at(area, n, i).share(area[area::STEP * n + i], alpha),
+    )
 }
 
 // The target: the Cauchy point, its free coordinates moved by alpha times the step and brought into the box.
-// Kept: the target stands in the lent area.
+// Kept: fixed memory. The target stands in the lent area, so a bool says whether there is one.
 fn moved(area: &mut [f64], n: usize, alpha: f64) -> bool
     requires { first_pair * n ≤ length area.old }
     ensures { Makes vector_target (moved_at n (view area.old n) alpha) (view area.old n) result (view area.new n) }
 {
-    for i in 0..n {
-        area[area::TARGET * n + i] = coordinate_at(area, n, i).moved(
-            area[area::STEP * n + i],
-            alpha,
-        );
-    }
+    area::set_each(
+        area,
+        n,
+        area::TARGET,
+        |area, i| coordinate_at(area, n, i).moved(area[area::STEP * n + i], alpha),
+    );
     area::all_finite(area, n, area::TARGET)
 }
 
 // The target by the share that the bounds leave, where the steps are finite.
-// Kept: the target stands in the lent area.
-fn moved_by(area: &mut [f64], n: usize) -> bool
+// Kept: fixed memory. The target stands in the lent area, so a bool says whether there is one.
+fn move_by_share(area: &mut [f64], n: usize) -> bool
     requires { first_pair * n ≤ length area.old }
-    ensures { Makes vector_target (moved_by_at n (view area.old n)) (view area.old n) result (view area.new n) }
+    ensures { Makes vector_target (moved_by_share_at n (view area.old n)) (view area.old n) result (view area.new n) }
 {
     if !area::all_finite(area, n, area::STEP) {
         return false;
@@ -412,12 +403,12 @@ fn moved_by(area: &mut [f64], n: usize) -> bool
 }
 
 // The target where a coordinate is free.
-// Kept: the target stands in the lent area.
-fn on_free(area: &mut [f64], model: &compact::Model) -> bool
+// Kept: fixed memory. The target stands in the lent area, so a bool says whether there is one.
+fn minimize_free(area: &mut [f64], model: &compact::Model) -> bool
     requires { Ready model.now area.old }
     ensures { let h = model.now.shape in
         let v = view area.old h.n in
-        Makes vector_target (on_free_at h model.now.theta v) v result (view area.new h.n) }
+        Makes vector_target (free_minimum_at h model.now.theta v) v result (view area.new h.n) }
 {
     if !residual(area, model) {
         return false;
@@ -425,11 +416,11 @@ fn on_free(area: &mut [f64], model: &compact::Model) -> bool
     if !steps(area, model) {
         return false;
     }
-    moved_by(area, model.shape.n)
+    move_by_share(area, model.shape.n)
 }
 
 // `primal_minimize`: the minimum over the free coordinates of the Cauchy point becomes the target; false where there is none.
-// Kept: the target stands in the lent area, so a bool says whether there is one.
+// Kept: fixed memory. The target stands in the lent area, so a bool says whether there is one.
 pub fn primal_minimize(area: &mut [f64], model: &compact::Model) -> bool
     requires { Ready model.now area.old }
     ensures { let h = model.now.shape in
@@ -438,7 +429,7 @@ pub fn primal_minimize(area: &mut [f64], model: &compact::Model) -> bool
 {
     let n = model.shape.n;
     if any_free(area, n) {
-        return on_free(area, model);
+        return minimize_free(area, model);
     }
     area::copy(area, n, area::TARGET, area::CAUCHY);
     true
@@ -447,7 +438,7 @@ pub fn primal_minimize(area: &mut [f64], model: &compact::Model) -> bool
 // ---- the end of the direction
 
 // The target, unless it lies uphill. A slope that is no number keeps the target.
-// Kept: the direction's end is a function of two lent slices.
+// Kept: a rule of the project, that the direction's end is chosen by a function of two lent slices, which hands one on.
 fn end<'a>(target: &'a [f64], cauchy: &'a [f64], slope: f64) -> &'a [f64]
     ensures { result.now ≡ cond (Ieee.le zero64 slope) cauchy.now target.now }
 {
@@ -455,15 +446,13 @@ fn end<'a>(target: &'a [f64], cauchy: &'a [f64], slope: f64) -> &'a [f64]
 }
 
 // The words of `left` less those of `right`, zeros behind them.
-// Kept: the loop over the index is plainer than two zips of three slices.
 fn difference(left: &[f64], right: &[f64]) -> [f64; problem::MOST_COORDINATES]
     requires { (length left.now ≤ most_coordinates) × (length right.now ≡ length left.now) }
     ensures { result ≡ difference_array (length left.now) left.now right.now }
 {
-    let n = left.len();
     let mut result = [0.0; problem::MOST_COORDINATES];
-    for i in 0..n {
-        result[i] = left[i] - right[i];
+    for (i, word) in result[0..left.len()].iter_mut().enumerate() {
+        *word = left[i] - right[i];
     }
     result
 }

@@ -1,14 +1,13 @@
 -- What is printed for an answer of reading and reporting, by the definition. Assumes nothing.
 use Prim.Native.Nat.{ℕ, ◌≤◌}
-use mathlib.Core.Path.{◌≡◌, refl, sym, ap, ◌∙◌, subst}
+use mathlib.Core.Path.{◌≡◌, refl, ap, ◌∙◌, subst}
 use mathlib.Core.Bool.{Bool, true, false, cond}
 use mathlib.Core.List.{List}
-use Rattle.std.specs.Prelude.{None, Result, Ok, Err}
+use Rattle.std.specs.Prelude.{None, Result, Ok}
 use native.Mathlib.Omega.{arith}
 use borrow.Author.Tests.{le-ltb}
 use lib.ListN.{length}
 use lib.Ieee.{Float}
-use Rattle.definition.specs.Problem as P
 use Rattle.definition.specs.Problem.{refuse, when, ◌then◌}
 use Rattle.definition.specs.Machine as M
 use Rattle.definition.specs.Record.{Reading}
@@ -17,7 +16,6 @@ use Rattle.definition.specs.History as H
 use Rattle.definition.specs.History.{Call, refused_by}
 use Rattle.definition.specs.Programs.{input_coordinates, Printed, printed_fit, printed_of, printed, read_input}
 use Rattle.problem.specs.declared.Refusal.{Refusal}
-use Rattle.problem.specs.Setups.{refusal_of}
 use Rattle.fit.specs.declared.Fit.{Fit}
 use Rattle.question.specs.declared.Outcome.{Outcome}
 use Rattle.held.proofs.Test.{ready_facts, held_ready}
@@ -26,17 +24,6 @@ use Rattle.lbfgsb.specs.Bridge.{told}
 use Rattle.lbfgsb.specs.Did.{Read}
 use Rattle.lbfgsb.specs.Table.{report_answer}
 use Rattle.input.specs.Input.{Taken}
-
--- ---- a refusal
-
-refused_go : (z : Reading) (c : Refusal) (a : List Float) (l : List ℕ) → Taken z (Err c) a l → printed_of z ≡ Printed.refused (refusal_of c).number
-refused_go (Reading.accepted b) c a l h = absurd h
-refused_go (Reading.refused k) c a l h = ap (λ (r : P.Refusal). Printed.refused r.number) (sym h)
-refused_go (Reading.refused_at_entry k) c a l h = ap (λ (r : P.Refusal). Printed.refused r.number) (sym h)
-
-pub refused_printed : (bs : List ℕ) (r : Result Fit Refusal) (c : Refusal) (a : List Float) (l : List ℕ) → Taken (read_input bs) r a l → r ≡ Err c
-    → Printed.refused (refusal_of c).number ≡ printed bs
-refused_printed bs r c a l h e = sym (refused_go (read_input bs) c a l (subst (λ (x : Result Fit Refusal). Taken (read_input bs) x a l) e h))
 
 -- ---- a fit
 
@@ -69,7 +56,8 @@ fit_go (Reading.accepted b) f a l t x h e = (held_n h, ap answered e ∙ held_an
 fit_go (Reading.refused k) f a l t x h e = absurd h
 fit_go (Reading.refused_at_entry k) f a l t x h e = absurd h
 
-pub fit_printed : (bs : List ℕ) (r : Result Fit Refusal) (f : Fit) (a : List Float) (l : List ℕ) (t : Result Outcome Refusal) (x x' : List Float) → Taken (read_input bs) r a l
+pub fit_printed : (bs : List ℕ) (r : Result Fit Refusal) (f : Fit) (a : List Float) (l : List ℕ) (t : Result Outcome Refusal) (x x' : List Float)
+    → Taken (read_input bs) r a l
     → r ≡ Ok f → length x ≡ input_coordinates
     → ((m : List ℕ) → Read (Call.report (length x)) (words f a m) (told t f.shape.n x') x x')
     → (f.shape.n ≤ input_coordinates) × (answered (told t f.shape.n x') ≡ printed bs)

@@ -2,7 +2,6 @@
 #![tactic(auto)]
 
 ghost use Rattle.std.specs.Prelude.{◌≡◌, ◌*◌, ◌≤◌, ◌<◌, length, option_map, IfSome, Float};
-ghost use Rattle.definition.specs.Number.{max as max_of};
 ghost use Rattle.definition.specs.Search.{limit_of as limit_on, begin_search, trial_point};
 ghost use Rattle.definition.specs.Driver.{projected_norm, gradient_small, decrease_small, try_step};
 ghost use Rattle.area.specs.Area.{Vecs, bounds_of, view, upd, words_at, first_pair, vector_x, vector_g, vector_trial, vector_direction};
@@ -16,19 +15,17 @@ use search::{Limit, Search};
 
 // ---- convergence
 
-// The larger of `largest` and coordinate i of the projected gradient.
-fn projected_at(area: &[f64], n: usize, largest: f64, i: usize) -> f64
+// Coordinate i of the projected gradient, without its sign.
+fn projected_at(area: &[f64], n: usize, i: usize) -> f64
     requires { (first_pair * n ≤ length area.now) × (i < n) }
-    ensures { result ≡ max_of largest (projected_in (words_at area.now n i)) }
+    ensures { result ≡ projected_in (words_at area.now n i) }
 {
     let g = area[area::G * n + i];
     let x = area[area::X * n + i];
     if 0.0 < g {
-        let room = float::max(x - area[area::LOWER * n + i], 0.0);
-        return float::max(largest, float::min(g, room));
+        return float::min(g, float::max(x - area[area::LOWER * n + i], 0.0));
     }
-    let room = float::max(area[area::UPPER * n + i] - x, 0.0);
-    float::max(largest, float::min(-g, room))
+    float::min(-g, float::max(area[area::UPPER * n + i] - x, 0.0))
 }
 
 // `projected_norm` of the point held.
@@ -37,11 +34,10 @@ fn projected_norm(area: &[f64], n: usize) -> f64
     ensures { (f : Float) → result ≡ projected_norm n (bounds_of (view area.now n))
         (record { x = view area.now n vector_x; f = f; g = view area.now n vector_g }) }
 {
-    let mut largest = 0.0f64;
-    for i in 0..n {
-        largest = projected_at(area, n, largest, i);
-    }
-    largest
+    (0..n).fold(
+        0.0,
+        |largest, i| float::max(largest, projected_at(area, n, i)),
+    )
 }
 
 // The test of gtol: equality passes.
@@ -77,15 +73,12 @@ fn trial_at(area: &[f64], n: usize, alpha: f64, i: usize) -> f64
 }
 
 // The trial point: the point held plus alpha times the direction, brought into the box.
-// Kept: an index. What is read and what is written stand in one lent slice.
 fn put_trial(area: &mut [f64], n: usize, alpha: f64)
     requires { first_pair * n ≤ length area.old }
     ensures { view area.new n ≡ upd (view area.old n) vector_trial
         (trial_point n (bounds_of (view area.old n)) (view area.old n vector_x) (view area.old n vector_direction) alpha) }
 {
-    for i in 0..n {
-        area[area::TRIAL * n + i] = trial_at(area, n, alpha, i);
-    }
+    area::set_each(area, n, area::TRIAL, |area, i| trial_at(area, n, alpha, i));
 }
 
 // The next trial of a search: its value is asked.
@@ -94,8 +87,7 @@ pub fn try_step(fit: Fit, area: &mut [f64], search: Search) -> Fit
     ensures { Steps (try_step (search_of search)) fit area.old result area.new }
 {
     put_trial(area, fit.shape.n, search.step.alpha);
-    let next = Fit { search, ..fit };
-    fit::ask_value(next, Phase::Value(Place::Trial))
+    fit::ask_value(Fit { search, ..fit }, Phase::Value(Place::Trial))
 }
 
 // ---- the search's start
@@ -121,14 +113,14 @@ fn limit_of(area: &[f64], n: usize) -> Limit
     requires { first_pair * n ≤ length area.now }
     ensures { limit_of result ≡ limit_on n (bounds_of (view area.now n)) (view area.now n vector_x) (view area.now n vector_direction) }
 {
-    let mut limit = Limit {
+    let start = Limit {
         amax: float::STEP_LIMIT,
         face: false,
     };
-    for i in 0..n {
-        limit = search::limited(distance_at(area, n, i), limit);
-    }
-    limit
+    (0..n).fold(
+        start,
+        |limit, i| search::limited(distance_at(area, n, i), limit),
+    )
 }
 
 // The first trial of a search, unless there is nothing to search.

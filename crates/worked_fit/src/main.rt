@@ -19,50 +19,61 @@ fn options() -> Options {
 
 // ---- the objective
 
-fn value(x: f64, y: f64) -> u64 {
-    float::float_to_word((x - 1.0) * (x - 1.0) + 10.0 * (y + 0.5) * (y + 0.5))
-}
-
-fn gradient(x: f64, y: f64) -> [u64; 2] {
-    [
-        float::float_to_word(2.0 * (x - 1.0)),
-        float::float_to_word(20.0 * (y + 0.5)),
-    ]
-}
-
-// ---- what is shown
-
 // A point, shown by its words.
 #[derive(Clone, Copy)]
-struct Point(f64, f64);
+struct Point {
+    x: f64,
+    y: f64,
+}
+
+impl Point {
+    // The point of an output.
+    fn of(output: [f64; 2]) -> Self {
+        Point {
+            x: output[0],
+            y: output[1],
+        }
+    }
+
+    fn value(self) -> u64 {
+        let Point { x, y } = self;
+        float::float_to_word((x - 1.0) * (x - 1.0) + 10.0 * (y + 0.5) * (y + 0.5))
+    }
+
+    fn gradient(self) -> [u64; 2] {
+        [
+            float::float_to_word(2.0 * (self.x - 1.0)),
+            float::float_to_word(20.0 * (self.y + 0.5)),
+        ]
+    }
+}
 
 impl fmt::Display for Point {
-    fn fmt<W: fmt::Write>(&self, f: &mut fmt::Formatter<W>) -> fmt::Result {
-        let x = float::float_to_word(self.0);
-        let y = float::float_to_word(self.1);
-        write!(f, "{x:016x} {y:016x}")
+    fn fmt<W: fmt::Write>(&self, formatter: &mut fmt::Formatter<W>) -> fmt::Result {
+        let x = float::float_to_word(self.x);
+        let y = float::float_to_word(self.y);
+        write!(formatter, "{x:016x} {y:016x}")
     }
 }
 
 // ---- the fit
 
-// The reply to a question of this kind at (x, y).
+// The reply to a question of this kind at a point.
 fn replied<R: Print>(
     rt: &R,
     fit: Fit,
     area: &mut [f64],
     log: &mut [u64],
     kind: Kind,
-    x: f64,
-    y: f64,
+    point: Point,
 ) -> io::Result<Result<Fit, Refusal>> {
     let (name, reply) = match kind {
-        Kind::Value => ("value", Reply::Value(value(x, y))),
+        Kind::Value => ("value", Reply::Value(point.value())),
         Kind::Gradient => ("gradient", Reply::Gradient),
         Kind::Notice => ("notice", Reply::GoOn),
     };
-    println!(rt; "{name} {}", Point(x, y))?;
-    Ok(lbfgsb::reply(fit, area, log, reply, &gradient(x, y)))
+    println!(rt; "{name} {point}")?;
+    Ok(lbfgsb::reply(fit, area, log, reply, &point.gradient()))
 }
 
 // The fit after one question and its reply; refused where nothing is asked.
@@ -72,9 +83,9 @@ fn turn<R: Print>(
     area: &mut [f64],
     log: &mut [u64],
 ) -> io::Result<Result<Fit, Refusal>> {
-    let mut point = [0.0f64; 2];
-    match lbfgsb::question(fit, area, &mut point) {
-        Ok(Some(kind)) => replied(rt, fit, area, log, kind, point[0], point[1]),
+    let mut output = [0.0f64; 2];
+    match lbfgsb::question(fit, area, &mut output) {
+        Ok(Some(kind)) => replied(rt, fit, area, log, kind, Point::of(output)),
         Ok(None) => Ok(Err(Refusal::NotDue)),
         Err(refusal) => Ok(Err(refusal)),
     }
@@ -93,15 +104,15 @@ fn fitted<R: Print>(rt: &R, first: Fit, area: &mut [f64], log: &mut [u64]) -> io
 }
 
 fn report<R: Print>(rt: &R, fit: Fit, area: &[f64]) -> io::Result<()> {
-    let mut point = [0.0f64; 2];
-    let Ok(outcome) = lbfgsb::report(fit, area, &mut point) else {
+    let mut output = [0.0f64; 2];
+    let Ok(outcome) = lbfgsb::report(fit, area, &mut output) else {
         return Ok(());
     };
     println!(rt; "status {}", outcome.status())?;
     println!(rt; "nit {}", outcome.nit)?;
     println!(rt; "nfev {}", outcome.nfev)?;
     println!(rt; "njev {}", outcome.njev)?;
-    println!(rt; "point {}", Point(point[0], point[1]))
+    println!(rt; "point {}", Point::of(output))
 }
 
 fn main(rt: HostRuntime) -> io::Result<()> {

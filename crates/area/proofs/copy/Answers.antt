@@ -1,13 +1,8 @@
--- `area::copy` meets its contract; in its loop word i of vector p becomes that of vector q. Assumes nothing.
-use native.Mathlib.Omega.{arith}
-use Rattle.area.proofs.Laws.{row_none, laws}
+-- `area::copy` meets its contract. Assumes nothing.
+use mathlib.Core.Path.{◌∙◌}
+use borrow.Author.Rules.{rules}
+use Rattle.area.proofs.Laws.{length-view, rowwise_copies}
 use Rattle.area.proofs.copy.Goals as goal
 
-pub loop-i-init : goal.loop-i-init
-loop-i-init c = row_none (omega arith)
-
-pub loop-i-preserved : goal.loop-i-preserved
-loop-i-preserved c = search laws
-
 pub returns : goal.returns
-returns c = search laws
+returns c = c.set_each.ensures (λ i w. w c.args.from) (λ a i y l h p. search rules) ∙ rowwise_copies _ _ _ _ (length-view _ _ _ c.requires.1)

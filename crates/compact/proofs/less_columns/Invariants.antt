@@ -8,4 +8,4 @@ use Rattle.compact.proofs.less_columns.Given as goal
 abbrev pub invariant-loop-column : goal.invariant-loop-column
 invariant-loop-column l =
     let h = l.model.shape in
-    Lessened h l.weights l.to (view l.initial.area h.n) (view l.area h.n) l.column × (length l.area ≡ length l.initial.area)
+    Lessened h l.fn.weights l.to (view l.initial.area h.n) (view l.area h.n) l.column × (length l.area ≡ length l.initial.area)

@@ -7,4 +7,4 @@ use Rattle.differences.proofs.on_not_supplied.Goals as goal
 pub returns : goal.returns
 unfolding of_bits
 returns c =
-    gradient_put _ (leads_settled _ c.probe_from-next.ensures c.numbers_of-numbers.ensures.0 c.settle.ensures) c.fill.ensures
+    gradient_put _ (leads_settled _ c.probe_from-next.ensures c.numbers_of.ensures.0 c.settle.ensures) c.fill.ensures

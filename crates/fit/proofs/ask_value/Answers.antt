@@ -9,7 +9,9 @@ pub returns-then-charge_value : goal.returns-then-charge_value
 returns-then-charge_value c = record {
   shape = refl;
   kept = record { options = refl; extra = refl; settled = λ s. s };
-  is = λ v. charge_asks _ _ _ (left_charges (limits_of c.args.fit.limits) _ _ c.charge_value.ensures.counters (sym c.charge_value.ensures.left ∙ c.if-charge_value.true));
+  is = λ v.
+      let charged = c.charge_value.ensures in
+      charge_asks _ _ _ (left_charges (limits_of c.args.fit.limits) _ _ charged.counters (sym charged.left ∙ c.if-charge_value.true));
 }
 
 pub returns-else-charge_value : goal.returns-else-charge_value

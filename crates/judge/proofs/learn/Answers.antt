@@ -7,7 +7,8 @@ use lib.Ieee.{Float}
 use Rattle.definition.specs.Compact as C
 use Rattle.definition.specs.Machine as M
 use Rattle.definition.specs.Driver.{learn}
-use Rattle.area.specs.Area.{Vecs, view, first_pair, ScratchOnly, difference_of, vector_velocity, vector_displacement, vector_trial, vector_x, vector_trial_gradient, vector_g}
+use Rattle.area.specs.Area.{Vecs, view, first_pair, ScratchOnly, difference_of}
+use Rattle.area.specs.Area.{vector_velocity, vector_displacement, vector_trial, vector_x, vector_trial_gradient, vector_g}
 use Rattle.area.proofs.Laws.{scratch_refl, scratch_upd}
 use Rattle.compact.specs.declared.Shape.{Shape}
 use Rattle.compact.specs.State.{Updated, compact_of}

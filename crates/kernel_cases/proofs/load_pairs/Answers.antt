@@ -3,5 +3,5 @@ use Rattle.std.proofs.Common.{arith}
 use Rattle.compact.proofs.Laws.{vector_room}
 use Rattle.kernel_cases.proofs.load_pairs.Goals as goal
 
-pub load-at-requires : goal.load-at-requires
-load-at-requires c = omega (arith, vector_room c.loop-p.p c.requires (omega arith))
+pub load-rest-requires : goal.load-rest-requires
+load-rest-requires c = omega (arith, vector_room c.loop-vector.vector c.requires (omega arith))

@@ -3,5 +3,5 @@ use borrow.Author.Rules.{rules}
 use Rattle.compact.proofs.Models.{modelled_kept}
 use Rattle.kernel_cases.proofs.model_case.Goals as goal
 
-pub primal_minimize-ok-requires : goal.primal_minimize-ok-requires
-primal_minimize-ok-requires c = (search rules, modelled_kept _ c.generalized_cauchy-reached.ensures.kept.high c.build.ensures.is)
+pub primal_minimize-made-requires : goal.primal_minimize-made-requires
+primal_minimize-made-requires c = (search rules, modelled_kept _ c.generalized_cauchy-reached.ensures.kept.high c.build.ensures.is)

@@ -3,12 +3,8 @@ use mathlib.Core.Path.{refl, sym, ap, ◌∙◌}
 use Rattle.problem.specs.declared.Refusal.TheVariants.{OutputShort}
 use Rattle.fit.specs.State.{kind_number}
 use Rattle.lookup.proofs.Saving.{facts}
-use Rattle.lbfgsb.proofs.Reading.{question_ended, question_short, question_put, none_asked, some_asked, number_above}
+use Rattle.lbfgsb.proofs.Reading.{question_short, question_put, some_asked, number_above}
 use Rattle.lbfgsb.proofs.question.Goals as goal
-
-pub returns-in_default : goal.returns-in_default
-returns-in_default c l =
-    question_ended _ _ l _ (sym c.is_held.ensures ∙ c.if-not-is_held.false) (none_asked _ c.in_default.not-Some c.asked.ensures)
 
 pub returns-then-out-needed : goal.returns-then-out-needed
 returns-then-out-needed c l =

@@ -4,10 +4,10 @@ use Rattle.lookup.proofs.Entries.{skipped_more, skipped_end, skipped_done}
 use Rattle.lookup.proofs.entry.Goals as goal
 
 pub returns-then-is_empty : goal.returns-then-is_empty
-returns-then-is_empty c = skipped_end c.loop-i.invariant _ c.loop-i-test.true c.front_entry-front.ensures c.if-is_empty.ensures
+returns-then-is_empty c = skipped_end c.loop.invariant _ c.loop-test.true c.front_entry-front.ensures c.if-is_empty.ensures
 
-pub loop-i-preserved : goal.loop-i-preserved
-loop-i-preserved c = skipped_more c.loop-i.invariant _ c.loop-i-test.true c.front_entry-front.ensures c.if-is_empty.ensures
+pub loop-preserved : goal.loop-preserved
+loop-preserved c = skipped_more c.loop.invariant _ c.loop-test.true c.front_entry-front.ensures c.if-is_empty.ensures
 
 pub returns : goal.returns
-returns c = c.front_entry.ensures ∙ skipped_done c.loop-i.invariant c.loop-i-test.false
+returns c = c.front_entry.ensures ∙ skipped_done c.loop.invariant c.loop-test.false

@@ -2,5 +2,5 @@
 use Rattle.lookup.proofs.Entries.{Skipped}
 use Rattle.lookup.proofs.entry.Given as goal
 
-abbrev pub invariant-loop-i : goal.invariant-loop-i
-invariant-loop-i l = Skipped l.n l.k l.words l.rest l.i
+abbrev pub invariant-loop : goal.invariant-loop
+invariant-loop l = Skipped l.n l.k l.words l.rest l.counter

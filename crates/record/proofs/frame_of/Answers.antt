@@ -1,26 +1,26 @@
 -- `record::frame_of` meets its contract. Assumes nothing.
-use Rattle.std.proofs.Common.{◌-◌, length, arith}
-use Rattle.record.proofs.Reading.{framed_fits, count_fits, trailer_word, frame_same}
+use Rattle.std.proofs.Common.{ℕ, ◌+◌, ◌-◌, ◌%◌, length, ap, arith}
+use Rattle.record.proofs.Reading.{framed_fits, count_fits, bytes_lent}
 use Rattle.record.proofs.frame_of.Goals as goal
 
-pub overflow_mul-at : goal.overflow_mul-at
-overflow_mul-at c =
+pub overflow_mul-bytes : goal.overflow_mul-bytes
+overflow_mul-bytes c =
     let bs = c.args.input.now in
-    omega (arith, count_fits bs (length bs - 8) _ c.requires (omega (arith, (framed_fits bs c.requires).long)) c.word_at-words.ensures)
+    let k = framed_fits bs c.requires in
+    omega (arith, count_fits bs (length bs - 32 + 24) _ c.requires (omega (arith, k.long)) c.word_at-count.ensures)
 
-pub overflow_sub-at-2 : goal.overflow_sub-at-2
-overflow_sub-at-2 c =
+pub overflow_sub-bytes : goal.overflow_sub-bytes
+overflow_sub-bytes c =
     let bs = c.args.input.now in
-    omega (arith, count_fits bs (length bs - 8) _ c.requires (omega (arith, (framed_fits bs c.requires).long)) c.word_at-words.ensures)
-
-pub word_of-first-requires : goal.word_of-first-requires
-word_of-first-requires c =
-    let bs = c.args.input.now in
-    omega (arith, count_fits bs (length bs - 8) _ c.requires (omega (arith, (framed_fits bs c.requires).long)) c.word_at-words.ensures)
+    let k = framed_fits bs c.requires in
+    omega (arith, count_fits bs (length bs - 32 + 24) _ c.requires (omega (arith, k.long)) c.word_at-count.ensures)
 
 pub returns : goal.returns
 returns c =
     let bs = c.args.input.now in
-    let long = (framed_fits bs c.requires).long in
-    frame_same bs _ _ _ (trailer_word bs 3 (length bs - 8) _ long (omega arith) (omega (arith, long)) c.word_at-words.ensures)
-    c.word_of-first.ensures c.setup_length.ensures
+    let k = framed_fits bs c.requires in
+    let bytes = bytes_lent bs (length bs - 32 + 24) _ c.requires (omega (arith, k.long)) c.word_at-count.ensures in
+    record {
+      bytes = bytes;
+      counted = record { n = ap (λ (w : ℕ). w % 256) c.word_of-first.ensures; setup = rw (c.setup_words.ensures, c.has_box.ensures, c.word_of-first.ensures) };
+    }

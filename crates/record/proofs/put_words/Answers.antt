@@ -11,7 +11,7 @@ loop-i-init c =
     writing_none (saved_words (setup_of a.setup) a.log.now) a.out.now _
     (ap (λ (k : ℕ). k + length a.log.now) c.setup_words.ensures
     ∙ sym (saved_size a.setup.options a.setup.x0.now a.setup.lower.now a.setup.upper.now c.requires.0 a.log.now))
-    (omega (arith, c.requires.1, c.setup_words.ensures))
+    (omega (arith, c.requires.1, c.setup_words.ensures)) c.default-sums.ensures
 
 pub loop-i-preserved : goal.loop-i-preserved
 loop-i-preserved c =

@@ -6,12 +6,12 @@ use Rattle.record.proofs.sums_agree.Goals as goal
 
 pub returns-then-sums-word_at : goal.returns-then-sums-word_at
 returns-then-sums-word_at c =
-    let t = c.sums_at-sums.ensures in
+    let t = c.sums_in-sums.ensures in
     running_tells c.args.input.now c.args.frame c.requires _ _ _ _ (ap (λ (s : Sums). s.plain) t) (ap (λ (s : Sums). s.running) t)
     c.word_at.ensures c.word_at-then-sums-word_at.ensures c.if-sums-word_at.true
 
 pub returns-else-sums-word_at : goal.returns-else-sums-word_at
 returns-else-sums-word_at c =
-    let t = c.sums_at-sums.ensures in
+    let t = c.sums_in-sums.ensures in
     ne_eqb _ _ c.if-sums-word_at.false
     ∙ plain_differs c.args.input.now c.args.frame c.requires _ _ (ap (λ (s : Sums). s.plain) t) c.word_at.ensures c.if-sums-word_at.false

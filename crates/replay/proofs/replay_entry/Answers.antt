@@ -18,14 +18,6 @@ returns-in_err-check_admitted c =
     let p = err_from_is_err_and c.from_residual-in_err-check_admitted.result c.from_residual-in_err-check_admitted.ensures.1 in
     rw (p.1, p.2) (refused_is a.fit a.area.now ws a.room c.requires.0 _ _ reads _ c.in_err-check_admitted.ensures)
 
-pub take_entry-next-requires : goal.take_entry-next-requires
-take_entry-next-requires c =
-    let a = c.args in
-    let ws = source_words a.source in
-    let reads = subst (EntryIs a.fit.shape.n ws a.fit.extra.words) c.in_ok-entry.ensures.ok_part c.entry_at.ensures in
-    let k = admitted_is a.fit a.area.now ws a.room c.requires.0 _ _ reads c.in_ok-check_admitted.ensures in
-    (k.ready, k.due, omega (arith, reads.size, reads.within))
-
 pub counted-requires : goal.counted-requires
 counted-requires c =
     let a = c.args in

@@ -1,27 +1,22 @@
 -- `script::run_script` meets its contract: one call more with each turn. Assumes nothing.
-use mathlib.Core.Path.{refl, ◌∙◌}
-use native.Mathlib.Omega.{arith}
-use borrow.Author.Rules.{rules}
+use Rattle.std.proofs.Common.{refl, ◌∙◌}
 use Rattle.lbfgsb.specs.Words.{words}
 use Rattle.script.proofs.Laws.{given_same, ran_none, ran_more, ran_all}
 use Rattle.script.proofs.run_script.Goals as goal
 
-pub loop-i-init : goal.loop-i-init
-loop-i-init c = (search rules, search rules, refl, refl, refl, ran_none _ _ _)
+pub loop-op-init : goal.loop-op-init
+loop-op-init c = (refl, refl, refl, ran_none _)
 
-pub loop-i-preserved : goal.loop-i-preserved
-loop-i-preserved c =
-    let l = c.loop-i in (
-      search rules,
-      l.invariant.1,
-      c.point-1.given ∙ l.invariant.2,
-      c.found-1.given ∙ l.invariant.3,
-      c.bytes-1.given ∙ l.invariant.4,
-      ran_more _ _ _ l.i _ _ (words l.ran.fit l.area l.log) _ _ _ (given_same _ _ _ _ _ _ _ _ _ l.invariant.2 l.invariant.3 l.invariant.4)
-          c.call_at.ensures l.invariant.5 c.step-ran.ensures,
+pub loop-op-preserved : goal.loop-op-preserved
+loop-op-preserved c =
+    let l = c.loop-op in
+    let i = l.invariant in (
+      c.step-ran.auto.point ∙ i.0,
+      c.step-ran.auto.found ∙ i.1,
+      c.step-ran.auto.bytes ∙ i.2,
+      ran_more _ _ _ l.op-index _ _ (words l.ran.fit l.area l.log) _ _ _ (given_same _ _ _ _ _ _ _ _ _ i.0 i.1 i.2) c.loop-op-test.true
+          c.of_words.ensures i.3 c.step-ran.ensures,
     )
 
 pub returns : goal.returns
-returns c =
-    let l = c.loop-i in
-    ran_all _ _ l.i _ _ _ (omega arith) l.invariant.5
+returns c = ran_all _ _ _ c.loop-op.op-index _ _ _ c.as_chunks.ensures.front c.loop-op-test.false c.loop-op.invariant.3

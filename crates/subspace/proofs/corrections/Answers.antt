@@ -1,6 +1,8 @@
 -- `subspace::corrections` meets its contract: the first k columns are added. Assumes nothing.
 use mathlib.Core.Path.{refl, ◌∙◌}
 use native.Mathlib.Omega.{arith}
+use lib.Seq.{get_or-take}
+use lib.Ieee.{nan}
 use Rattle.float.proofs.Constants.{neg_zero_is}
 use Rattle.compact.proofs.Laws.{vector_room}
 use Rattle.subspace.proofs.Laws.{added_none, added_more, added_done}
@@ -17,7 +19,8 @@ add_column-requires c =
 pub loop-column-preserved : goal.loop-column-preserved
 loop-column-preserved c =
     let r = c.loop-column.invariant in
-    (added_more r.0 (omega arith) _ c.column_slot.ensures c.add_column.ensures, c.add_column.auto.area ∙ r.1)
+    let weight = get_or-take _ c.args.weights c.loop-column.column nan (omega arith) in
+    (added_more r.0 (omega arith) _ c.column_slot.ensures weight c.add_column.ensures, c.add_column.auto.area ∙ r.1)
 
 pub returns : goal.returns
 returns c =

@@ -7,4 +7,4 @@ use Rattle.subspace.proofs.corrections.Given as goal
 
 abbrev pub invariant-loop-column : goal.invariant-loop-column
 invariant-loop-column l =
-    Added l.shape l.weights (view l.initial.area l.shape.n) (view l.area l.shape.n) l.column × (length l.area ≡ length l.initial.area)
+    Added l.shape l.fn.weights (view l.initial.area l.shape.n) (view l.area l.shape.n) l.column × (length l.area ≡ length l.initial.area)

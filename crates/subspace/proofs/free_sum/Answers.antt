@@ -1,26 +1,29 @@
--- `subspace::free_sum` meets its contract: the first i terms are added. Assumes nothing.
+-- `subspace::free_sum` meets its contract: the chain adds up the products of the coordinates that are free. Assumes nothing.
 use mathlib.Core.Path.{refl, ◌∙◌}
-use Rattle.definition.specs.Geometry.{free_sum}
-use Rattle.float.proofs.Constants.{neg_zero_is}
-use Rattle.area.specs.Area.{fold_rows, words_at}
-use Rattle.area.proofs.Laws.{fold_none, fold_more, fold_done}
-use Rattle.subspace.proofs.Laws.{is_free_in}
+use mathlib.Core.List.{map}
+use Prim.Native.Nat.{ℕ}
+use native.Mathlib.Omega.{arith}
+use Rattle.std.specs.List.{filter, range_with_len}
+use Rattle.std.proofs.Common.{rules}
+use Rattle.std.proofs.lemmas.Iterator.{YieldsList-from_range, YieldsList-from_map}
+use Rattle.std.proofs.lemmas.Iterator.Consumers.{YieldsList-at, YieldsList-from_filter}
+use Rattle.definition.specs.Number.{times}
+use Rattle.area.specs.Area.{words_at}
+use Rattle.area.proofs.Laws.{summed}
+use Rattle.subspace.specs.State.{free_in}
+use Rattle.subspace.proofs.Laws.{free_products}
 use Rattle.subspace.proofs.free_sum.Goals as goal
-use Rattle.subspace.proofs.free_sum.Goals.{then-is_free, else-is_free}
-
-pub loop-i-init : goal.loop-i-init
-loop-i-init c = rw neg_zero_is fold_none
-
-pub loop-i-preserved : goal.loop-i-preserved
-loop-i-preserved c =
-    let w = words_at c.args.area.now c.args.n c.loop-i.i in
-    let free = is_free_in w c.coordinate_at.ensures c.is_free.ensures in
-    fold_more c.loop-i.invariant c.loop-i-test.true
-    (elim c.if-is_free.branch [
-      | then-is_free q ↦ q.sum-is ∙ rw (free ∙ q.if-is_free.true) refl
-      | else-is_free q ↦ q.sum-is ∙ rw (free ∙ q.if-is_free.false) refl
-    ])
 
 pub returns : goal.returns
-unfolding fold_rows free_sum
-returns c = fold_done c.loop-i.invariant c.loop-i-test.false
+returns c =
+    let a = c.args.area.now in
+    let n = c.args.n in
+    let free = λ (i : ℕ). free_in (words_at a n i) in
+    let product = λ (i : ℕ). times (words_at a n i c.args.left) (words_at a n i c.args.right) in
+    summed c.sum.result c.map.result (map product (filter free (range_with_len 0 n))) c.sum.ensures.ran
+    (YieldsList-from_map _ product
+    (YieldsList-at c.map.ensures.source
+    (YieldsList-from_filter _ free (YieldsList-at c.filter.ensures.source (YieldsList-from_range 0 n n refl (omega arith)))
+    c.filter.ensures.closure (λ x b q k. search rules)))
+    c.map.ensures.closure (λ x r q k. search rules))
+    ∙ free_products a n c.args.left c.args.right

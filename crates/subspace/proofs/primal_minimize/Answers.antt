@@ -4,7 +4,7 @@ use Rattle.subspace.proofs.primal_minimize.Goals as goal
 
 pub returns-then-any_free : goal.returns-then-any_free
 returns-then-any_free c =
-    minimum_free _ _ _ _ _ _ c.any_free.ensures c.if-any_free.true c.on_free.ensures
+    minimum_free _ _ _ _ _ _ c.any_free.ensures c.if-any_free.true c.minimize_free.ensures
 
 pub returns : goal.returns
 returns c =

@@ -2,13 +2,15 @@
 use mathlib.Core.Path.{refl, ◌∙◌}
 use native.Mathlib.Omega.{arith}
 use lib.Ieee.{of_bits}
-use Rattle.compact.proofs.Laws.{padding_none, padding_more, padding_done, pairs_count, vector_room}
+use Rattle.definition.specs.Compact.{padded}
+use Rattle.compact.proofs.Laws.{pairs_count, vector_room}
+use Rattle.subspace.proofs.Arrays.{filled_none, filled_more, filled_done}
 use Rattle.subspace.proofs.Laws.{right_is}
 use Rattle.subspace.proofs.reduced_right.Goals as goal
 
 pub loop-i-init : goal.loop-i-init
 unfolding of_bits
-loop-i-init c = padding_none (omega arith) refl
+loop-i-init c = filled_none 32 _ refl (omega arith)
 
 pub free_sum-requires : goal.free_sum-requires
 free_sum-requires c =
@@ -17,8 +19,9 @@ free_sum-requires c =
 
 pub loop-i-preserved : goal.loop-i-preserved
 loop-i-preserved c =
-    padding_more c.loop-i.invariant (omega arith)
+    filled_more c.loop-i.invariant (omega arith)
     (c.free_sum.ensures ∙ right_is _ _ c.requires.1.laid (omega arith) c.column_slot.ensures)
 
 pub returns : goal.returns
-returns c = rw pairs_count (padding_done c.loop-i.invariant (omega arith))
+unfolding of_bits padded
+returns c = rw pairs_count (filled_done 32 _ refl (omega arith) c.loop-i.invariant (omega arith))

@@ -1,19 +1,23 @@
--- `subspace::share` meets its contract: alpha is what the first i coordinates leave. Assumes nothing.
+-- `subspace::share` meets its contract: the fold goes over the coordinates as the definition does. Assumes nothing.
 use mathlib.Core.Path.{refl, ◌∙◌}
+use Prim.Native.Nat.{ℕ}
 use native.Mathlib.Omega.{arith}
+use Rattle.std.proofs.Common.{rules}
+use Rattle.std.proofs.lemmas.Iterator.{YieldsList-from_range}
+use Rattle.std.proofs.lemmas.Iterator.Consumers.{fold_from_yields_List}
+use Rattle.definition.specs.Number.{one64}
 use Rattle.definition.specs.Geometry.{share_of}
 use Rattle.float.proofs.Constants.{one_is}
-use Rattle.area.specs.Area.{fold_rows}
-use Rattle.area.proofs.Laws.{fold_none, fold_more, fold_done}
+use Rattle.area.specs.Area.{words_at, fold_rows}
+use Rattle.subspace.specs.State.{share_in}
+use Rattle.subspace.proofs.Laws.{folded}
 use Rattle.subspace.proofs.share.Goals as goal
 
-pub loop-i-init : goal.loop-i-init
-loop-i-init c = rw one_is fold_none
-
 pub returns : goal.returns
-unfolding fold_rows share_of
-returns c = fold_done c.loop-i.invariant (omega arith)
-
-pub loop-i-preserved : goal.loop-i-preserved
-loop-i-preserved c =
-    fold_more c.loop-i.invariant c.loop-i-test.true (c.share-alpha.ensures ∙ rw c.coordinate_at.ensures refl)
+unfolding share_of fold_rows
+returns c =
+    let a = c.args.area.now in
+    let n = c.args.n in
+    fold_from_yields_List _ (λ alpha (i : ℕ). share_in (words_at a n i) alpha) _ _ c.fold.ensures.ran
+    (YieldsList-from_range 0 n n refl (omega arith)) (λ alpha i r q k. search rules)
+    ∙ rw one_is (folded a n (λ i. share_in) one64)

@@ -11,11 +11,11 @@ use Rattle.subspace.proofs.sums.Goals as goal
 
 pub loop-i-init : goal.loop-i-init
 unfolding fold_to
-loop-i-init c = (rw (c.start-sums.ensures, c.new-batch.ensures) fold_none, rw c.new-batch.ensures (held_none _ _ _ c.start-sums.ensures))
+loop-i-init c = (rw (c.empty_sums-sums.ensures, c.new-batch.ensures) fold_none, rw c.new-batch.ensures (held_none _ _ _ c.empty_sums-sums.ensures))
 
 pub loop-i-preserved : goal.loop-i-preserved
 loop-i-preserved c =
-    (fold_more c.loop-i.invariant.0 c.loop-i-test.true c.push.ensures.1, c.push.ensures.0)
+    (fold_more c.loop-i.invariant.0 c.loop-i-test.true c.add_coordinate.ensures.1, c.add_coordinate.ensures.0)
 
 pub returns : goal.returns
 returns c =

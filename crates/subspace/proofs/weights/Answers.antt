@@ -10,4 +10,4 @@ pub returns : goal.returns
 returns c =
     let h = c.args.model.now.shape in
     let v = view c.args.area.now h.n in
-    c.solve.ensures ∙ (λ k. solve (2 * sym (pairs_count h v) k) (c.reduced-matrix.ensures k) (c.reduced_right-right.ensures k))
+    c.solve.ensures ∙ (λ k. solve (2 * sym (pairs_count h v) k) (c.reduced.ensures k) (c.reduced_right.ensures k))

@@ -1,16 +1,10 @@
--- `trial::put_trial` meets its contract; in its loop the first i words of the trial are made. Assumes nothing.
-use native.Mathlib.Omega.{arith}
+-- `trial::put_trial` meets its contract. Assumes nothing.
+use borrow.Author.Rules.{rules}
 use Rattle.definition.specs.Search.{trial_point}
 use Rattle.area.specs.Area.{rowwise}
-use Rattle.area.proofs.Laws.{row_none, row_done, laws}
+use Rattle.trial.specs.Words.{trial_in}
 use Rattle.trial.proofs.put_trial.Goals as goal
 
 pub returns : goal.returns
 unfolding trial_point rowwise
-returns c = row_done c.loop-i.invariant (omega arith)
-
-pub loop-i-init : goal.loop-i-init
-loop-i-init c = row_none (omega arith)
-
-pub loop-i-preserved : goal.loop-i-preserved
-loop-i-preserved c = search laws
+returns c = c.set_each.ensures (λ i. trial_in c.args.alpha) (λ a i y l h p. search rules)

@@ -6,7 +6,6 @@ use lib.ListN.{set}
 use lib.Seq.{get_or-set_other}
 use Rattle.definition.specs.Number.{minus, times}
 use Rattle.definition.specs.Vector.{word}
-use Rattle.definition.specs.Solve.{row}
 use Rattle.solve.proofs.Steps.{ran_more}
 use Rattle.solve.proofs.factors.clear.Goals as goal
 
@@ -17,5 +16,5 @@ loop-i-preserved c =
     let i = c.loop-i.i in (
       c.loop-i.invariant.0 ∙ sym (get_or-set_other x i a.k _ nan (λ q. omega arith)),
       ran_more c.loop-i.invariant.1 (omega arith)
-          (ap (λ (w : Float). set x i (minus (word x i) (times (word (row a.multipliers.now a.k) i) w))) c.loop-i.invariant.0),
+          (ap (λ (w : Float). set x i (minus (word x i) (times (word a.multipliers.now i) w))) c.loop-i.invariant.0),
     )

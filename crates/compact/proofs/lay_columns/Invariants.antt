@@ -1,9 +1,0 @@
--- `compact::lay_columns` meets its contract: the first k columns are laid out, and the pairs stay. Assumes nothing.
-use mathlib.Core.Path.{◌≡◌}
-use lib.ListN.{length}
-use Rattle.area.specs.Area.{view}
-use Rattle.compact.proofs.Columns.{Laying}
-use Rattle.compact.proofs.lay_columns.Given as goal
-
-abbrev pub invariant-loop-column : goal.invariant-loop-column
-invariant-loop-column l = Laying l.shape l.theta (view l.initial.area l.shape.n) (view l.area l.shape.n) l.column × (length l.area ≡ length l.initial.area)

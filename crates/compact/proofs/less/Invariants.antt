@@ -1,7 +1,0 @@
--- `compact::less` meets its contract: word i of vector p loses w times that of q. Assumes nothing.
-use Rattle.definition.specs.Number.{minus, times}
-use Rattle.area.proofs.Laws.{Row}
-use Rattle.compact.proofs.less.Given as goal
-
-abbrev pub invariant-loop-i : goal.invariant-loop-i
-invariant-loop-i l = Row l.initial.area l.n l.to (λ i v. minus (v l.to) (times l.factor (v l.from))) l.area l.i
