@@ -390,9 +390,6 @@ saved_upd {b = b} p v l n r = record {
   free = λ q k m. upd_other b p q v (λ e. omega arith) ∙ r.free q k m;
 }
 
-pub saved_scratch : {a b : Vecs} → ScratchOnly a b → Saved a b
-saved_scratch r = record { x0 = r.low vector_x0 (omega arith); free = r.free }
-
 pub ruleset laws = (
   row_more,
   row_done,

@@ -1,3 +1,4 @@
 pub mod Floats
+pub mod Folds
 pub mod Laws
 pub mod Sizes

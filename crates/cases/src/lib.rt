@@ -31,6 +31,7 @@ pub fn behind(words: &[Word], n: usize) -> &[Word]
 }
 
 // Word i, and 0 past the end.
+// Kept: beside `record::word_of`. What tries the crates reads its files without them.
 pub fn word(words: &[Word], i: usize) -> u64 {
     words.get(i).map_or(0, |bytes| u64::from_le_bytes(*bytes))
 }

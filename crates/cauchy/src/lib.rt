@@ -246,7 +246,7 @@ fn put_point(area: &mut [f64], n: usize)
 }
 
 // `point_on_path`, if it is finite.
-// Kept: the point stands in the lent area, so a bool says whether there is one.
+// Kept: a bool. An `Option` would hold the point by value, and what reads it looks in the area.
 fn point_on_path(area: &mut [f64], n: usize) -> bool
     requires { first_pair * n ≤ length area.old }
     ensures { PathPoint n (view area.old n) result (view area.new n) }
@@ -431,7 +431,7 @@ impl<'a> Path<'a> {
 }
 
 // The Cauchy point in its vector, where there is one: at most n + 1 segments lead on.
-// Kept: the point stands in the lent area, so a bool says whether there is one.
+// Kept: a bool. An `Option` would hold the point by value, and what reads it looks in the area.
 pub fn generalized_cauchy(area: &mut [f64], model: &compact::Model) -> bool
     requires { let h = model.now.shape in
         Sound h (length area.old) × Modelled model.now (view area.old h.n) × (h.n ≤ most_coordinates) }

@@ -21,7 +21,8 @@ use Rattle.solve.proofs.Steps.{factors_solve}
 use Rattle.compact.specs.declared.Shape.{Shape}
 use Rattle.compact.specs.declared.Model.{Model}
 use Rattle.compact.specs.State.{column_slot, pairs_of, compact_of, Sound, Slot, Laid, PairsKept, Modelled, Multiplied, less_to}
-use Rattle.compact.proofs.Laws.{tab-get, tab_same, tab-word, fold_same, pairs_count, upd_same, upd_twice, upd_none, given_is}
+use Rattle.area.proofs.Folds.{fold_same}
+use Rattle.compact.proofs.Laws.{tab-get, tab_same, tab-word, pairs_count, upd_same, upd_twice, upd_none, given_is}
 use Rattle.compact.proofs.Models.{compact_laid}
 
 -- ---- one column

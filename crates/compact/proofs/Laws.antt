@@ -13,7 +13,7 @@ use lib.ListN.{length, get_or, set, take, drop, replicate, get_or-append, length
 use lib.Seq.{ext_get_or}
 use Rattle.std.proofs.lemmas.List.{take-replicate, drop-replicate, length-replicate}
 use lib.Ieee.{Float, nan}
-use Rattle.definition.specs.Vector.{tab, word, fold_to, dot}
+use Rattle.definition.specs.Vector.{tab, word, dot}
 use Rattle.definition.specs.Compact.{pair_of, wrap, padded}
 use Rattle.area.specs.Area.{Vecs, upd, given, vectors}
 use Rattle.area.proofs.Laws.{room}
@@ -41,11 +41,6 @@ tab_same (suc n) f g h = λ i. h zero (zero-lt-suc n) i ∷ tab_same n (λ (k : 
 pub tab-word : (n : ℕ) (v : List Float) → length v ≡ n → tab n (word v) ≡ v
 tab-word n v e =
     ext_get_or nan (tab n (word v)) v (tab-length n (word v) ∙ sym e) (λ k l. tab-get n (word v) k nan (omega (arith, tab-length n (word v))))
-
-pub fold_same : {A : Type 0} (n : ℕ) (f g : ℕ → A → A) (z : A) → ((k : ℕ) (r : A) → k < n → f k r ≡ g k r) → fold_to n f z ≡ fold_to n g z
-unfolding fold_to
-fold_same zero f g z h = refl
-fold_same (suc n) f g z h = h n (fold_to n f z) (omega arith) ∙ ap (g n) (fold_same n f g z (λ k r l. h k r (omega arith)))
 
 -- a product of two vectors that are the same as others
 pub dot_same : (n : ℕ) {x : Float} {a b s y : List Float} → x ≡ dot n a b → a ≡ s → b ≡ y → x ≡ dot n s y

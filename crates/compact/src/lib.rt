@@ -118,6 +118,7 @@ fn push(area: &mut [f64], shape: Shape) -> Shape
 }
 
 // `update` with the s and y of the two scratch vectors: the old pairs and theta stay unless the new pair is accepted.
+// Kept: shape and theta apart, as a fit has them: a struct of both would be made and taken apart at each of its three uses.
 pub fn update(area: &mut [f64], shape: Shape, theta: f64) -> Updated
     requires { Sound shape (length area.old) }
     ensures { Rattle.compact.specs.State.Updated shape theta (view area.old shape.n) result.shape result.theta
@@ -348,7 +349,7 @@ fn less_columns(area: &mut [f64], model: &Model, weights: Row, to: usize, from: 
 }
 
 // `times`: vector `to` becomes B times vector `from`; false, and `to` is scratch, where there is no such product.
-// Kept: a flag, since the product itself stands in the lent area.
+// Kept: a bool. An `Option` would hold the product by value, and what reads it looks in the area.
 pub fn product(area: &mut [f64], model: &Model, to: usize, from: usize) -> bool
     requires { Sound model.now.shape (length area.old) × Modelled model.now (view area.old model.now.shape.n)
         × (to < first_pair) × (from < first_pair) }

@@ -41,7 +41,7 @@ impl Reply {
     }
 
     // The reply of a kind, with the word that a value has; a failure past the kinds there are.
-    // Kept: a number, since in a log and in a record a kind is a word, and no option, since a public function that could not fail still can't.
+    // Kept: a number, since in a log and in a record a kind is a word; and no option, since it has answered for every number.
     pub fn of_kind(kind: u64, word: u64) -> Reply
         ensures { result ≡ reply_at kind word }
     {

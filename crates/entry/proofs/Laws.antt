@@ -18,7 +18,7 @@ use Rattle.definition.specs.Record.{Reading, plain_refusal}
 use Rattle.definition.specs.Replies.{Accepted}
 use Rattle.definition.specs.History as H
 use Rattle.definition.specs.Book.{Book, run_of}
-use Rattle.definition.specs.History.{Call, most_refusal, output_short, check_question, refused_by}
+use Rattle.definition.specs.History.{output_short, check_question, refused_by}
 use Rattle.definition.specs.Programs.{input_coordinates, return_point, return_end, return_fit}
 use Rattle.definition.proofs.Accepted.{accepted_in_limits}
 use Rattle.problem.specs.Setups.{refusal_of}

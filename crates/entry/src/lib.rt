@@ -1,7 +1,7 @@
 // The C entry: a record's bytes in, a number back, and the point of the open question, or the held one, in the output.
 #![tactic(auto)]
 
-ghost use Rattle.std.specs.Prelude.{◌≡◌, List, map, ℕ, ◌*◌, ◌≤◌, length, take};
+ghost use Rattle.std.specs.Prelude.{◌≡◌, List, map, ℕ, ◌*◌, ◌≤◌, length};
 ghost use Rattle.definition.specs.Number.{to_word};
 ghost use Rattle.definition.specs.Machine.{question};
 ghost use Rattle.definition.specs.Book.{Book, run_of};
@@ -24,15 +24,14 @@ fn put_floats(out: &mut [u8], point: &[f64])
     }
 }
 
-// The number, with n floats in the output; 119 where it is too short for them.
-fn put_point(out: &mut [u8], number: u64, point: &[f64], n: usize) -> u64
-    requires { n ≤ length point.now }
-    ensures { Returns (return_point (length out.old) number (take n point.now)) result out.old out.new }
+// The number, with the floats in the output; 119 where it is too short for them.
+fn put_point(out: &mut [u8], number: u64, point: &[f64]) -> u64
+    ensures { Returns (return_point (length out.old) number point.now) result out.old out.new }
 {
-    if out.len() / 8 < n {
+    if out.len() / 8 < point.len() {
         return 119;
     }
-    put_floats(out, &point[..n]);
+    put_floats(out, point);
     number
 }
 
@@ -46,7 +45,7 @@ fn ended(fit: Fit, area: &[f64], out: &mut [u8]) -> u64
     let Ok(_) = lbfgsb::report(fit, area, &mut point) else {
         return 0;
     };
-    put_point(out, 0, &point, fit.shape.n)
+    put_point(out, 0, &point[..fit.shape.n])
 }
 
 // What stands in the output of a fit: the point of the open question, or the end's.
@@ -59,7 +58,7 @@ fn answer(fit: Fit, area: &[f64], out: &mut [u8]) -> u64
     let Some(kind) = lbfgsb::question(fit, area, &mut point).unwrap_or(None) else {
         return ended(fit, area, out);
     };
-    put_point(out, kind.number() as u64, &point, fit.shape.n)
+    put_point(out, kind.number() as u64, &point[..fit.shape.n])
 }
 
 // 1 a value, 2 a gradient, 3 a notice is asked, 0 the fit has ended, or 100 and the number of a refusal.

@@ -30,7 +30,7 @@ pub enum Side {
 pub enum Phase {
     Value(Place),
     Gradient(Place),
-    // Kept: coordinate and side apart, as the definition has them.
+    // Kept: coordinate and side apart. The definition has them so, and a struct of both would be taken apart at each use.
     Probe(Place, usize, Side),
     Notice,
     Ended(Termination),
@@ -74,7 +74,7 @@ pub struct Fit {
 }
 
 impl Kind {
-    // The kind's number in a record and in a log.
+    // The kind's number, as document 01 has it.
     pub fn number(self) -> usize
         ensures { result ≡ kind_number (Some self) }
     {

@@ -169,7 +169,7 @@ fn is_report(report: &[Word], fit: Fit, area: &[f64]) -> bool {
 }
 
 // The kind of a question, the words from its point on, and those behind the question.
-// Kept: the kind is a number, since the list has it as a word.
+// Kept: the kind is a number, as the list has it. It is compared with the number of the kind that is asked, and no more.
 #[derive(Clone, Copy)]
 struct Question<'a> {
     kind: u64,

@@ -41,6 +41,7 @@ pub const STEP_LIMIT: f64 = 1e10;
 const SIGN_BIT: u64 = 0x8000_0000_0000_0000;
 
 // The two infinities of the definition: these contracts tie std's to them, once for every caller.
+// Kept: two functions. One of both would be given the sign, and is no shorter.
 pub fn infinity() -> f64
     ensures { result ≡ infinity_of }
 {

@@ -67,11 +67,7 @@ fn minus_point(h: f64, x: f64, low: f64) -> f64
 fn taken(point: f64, moves: bool) -> Option<f64>
     ensures { result ≡ taken_of point moves }
 {
-    if float::is_finite(point) && moves {
-        Some(point)
-    } else {
-        None
-    }
+    (float::is_finite(point) && moves).then_some(point)
 }
 
 // Both sides under Central only; else the right one where it is taken.

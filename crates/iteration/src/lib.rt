@@ -17,7 +17,7 @@ use fit::Fit;
 // ---- the model
 
 // The Cauchy point and the target, in their vectors: the columns are laid out, and the block is built and factored once.
-// Kept: both stand in the lent area, so a bool says whether they are there.
+// Kept: a bool. An `Option` would hold both by value, and what reads them looks in the area.
 fn model(area: &mut [f64], shape: Shape, theta: f64) -> bool
     requires { Sound shape (length area.old) × (shape.n ≤ most_coordinates) }
     ensures { Offers shape theta (view area.old shape.n) result (view area.new shape.n) }

@@ -201,7 +201,7 @@ fn is_vector(area: &[f64], n: usize, vector: usize, words: &[Word]) -> bool
 }
 
 // Whether the first word is 1 just where the vector is there, and the vector then has the bits of the words behind it.
-// Kept: a bool beside the area, in which the vector stands.
+// Kept: a bool, as the functions that are tried hand it back.
 fn is_flagged(area: &[f64], n: usize, vector: usize, there: bool, words: &[Word]) -> bool
     requires { vector * n + n ≤ length area.now }
 {
@@ -287,6 +287,7 @@ fn are_free(area: &[f64], n: usize, words: &[Word]) -> bool
 }
 
 // Whether the Cauchy point, where there is one, is that of the words, with its free coordinates.
+// Kept: a bool, by the same reason.
 fn is_cauchy(area: &[f64], n: usize, there: bool, words: &[Word]) -> bool
     requires { first_pair * n ≤ length area.now }
 {

@@ -16,7 +16,7 @@ use Rattle.definition.proofs.Counts.{terms_stay}
 use Rattle.definition.proofs.Lengths.{record_bytes_lem}
 use Rattle.held.specs.Test.{is_held}
 use Rattle.lbfgsb.specs.Words.{Words, lengths, machine_in, log_in, Held, Holds}
-use Rattle.lbfgsb.specs.Table.{question_of, question_answer, report_answer, replies_answer, entry_in, entry_kept, short_log, entry_answer, record_in}
+use Rattle.lbfgsb.specs.Table.{question_of, question_answer, report_answer, entry_in, entry_kept, short_log, entry_answer, record_in}
 use Rattle.lbfgsb.specs.Table.{save_answer}
 use Rattle.lookup.proofs.Entries.{entry_read}
 
@@ -54,12 +54,6 @@ report_said w room History.empty h =
 report_said w room (History.fit b) h =
     on (is_held w.state w.area) (report_from room w.state.shape.n (machine_in w)) (H.Answer.refused (plain_refusal 15)) h.stands.test
     ∙ ap₂ (report_from room) (coordinates h) h.stands.is
-
-pub replies_said : (w : Words) (h : History) → Holds w h → replies_answer w ≡ history_answer (lengths w) h Call.replies
-replies_said w History.empty h = off (is_held w.state w.area) (H.Answer.counted w.state.extra.entries) (H.Answer.counted 0) h
-replies_said w (History.fit b) h =
-    on (is_held w.state w.area) (H.Answer.counted w.state.extra.entries) (H.Answer.counted 0) h.stands.test
-    ∙ ap H.Answer.counted h.stands.entries
 
 -- the words ws of an entry, of a log of `size` words and an output of `room`
 abbrev pub entry_from : Check → ℕ → List ℕ → H.Answer

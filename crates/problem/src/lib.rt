@@ -31,7 +31,7 @@ pub enum Scheme {
 }
 
 // The setup but for its vectors, as it was given.
-// Kept: a flag beside the bounds, which stand in the area, where a fit keeps them.
+// Kept: fixed memory. A fit keeps its bounds in the area, so a flag says whether they count.
 #[derive(Clone, Copy, Debug, Default)]
 pub struct Options {
     pub bounded: bool,
@@ -187,6 +187,7 @@ fn check_start(x0: &[f64]) -> Result<(), Refusal>
 }
 
 // 4 at the first bound of a side that is a NaN.
+// Kept: beside `check_start`. One function of both would be given the test and the refusal as closures, and is no shorter.
 #[tactic(auto, unfolding(definition::specs::Vector::fold_to))]
 fn check_numbers(side: &[f64]) -> Result<(), Refusal>
     ensures { check_of result ≡ each_number side.now }
@@ -275,6 +276,7 @@ fn finite_positive(option: PositiveFloat, value: Option<f64>) -> Result<(), Refu
 }
 
 // 9 for a number that is not finite and at least 0.
+// Kept: beside `finite_positive`. They differ in the test, the option's type and the refusal, all that each has.
 fn finite_nonnegative(option: NonnegativeFloat, value: Option<f64>) -> Result<(), Refusal>
     ensures { check_of result ≡ given (finite_nonnegative (nonnegative_detail option)) value }
 {

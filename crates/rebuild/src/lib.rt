@@ -74,13 +74,12 @@ fn replay_record(area: &mut [f64], room: usize, parsed: Parsed) -> Result<Fit, R
 }
 
 // The words of a record's entries into the log.
-// Kept: an index. Words are made of bytes, and what `iter_mut().zip(..)` leaves in a slice is not known to a proof.
 fn copy_entries(log: &mut [u64], bytes: &[u8], count: usize)
     requires { (8 * count ≤ length bytes.now) × (count ≤ length log.old) }
     ensures { log.new ≡ headed (words_of count bytes.now) log.old }
 {
-    for i in 0..count {
-        log[i] = record::word_at(bytes, 8 * i);
+    for (i, word) in log[0..count].iter_mut().enumerate() {
+        *word = record::word_at(bytes, 8 * i);
     }
 }
 

@@ -1,9 +1,10 @@
 -- Laws of the array that holds a setup's vectors: how a loop fills it, and which parts of it are which vector. Assumes nothing.
 use Rattle.std.proofs.Common.{◌≡◌, ℕ, zero, suc, ◌+◌, ◌-◌, ◌*◌, ◌<◌, ◌≤◌, Bool, true, false, cond, List, [], ◌∷◌, ◌++◌, map, length, get_or, take, drop, set}
-use Rattle.std.proofs.Common.{replicate, sym, refl, ap, ◌∙◌, ap₂, add-one, arith, length-append, length-drop, length-take-le, drop-drop, rules}
-use Rattle.std.proofs.lemmas.List.{map-append, take-map, drop-map}
-use lib.ListN.{length-map}
-use lib.Seq.{take-append-le, drop-append-le}
+use Rattle.std.proofs.Common.{replicate, sym, refl, ap, ◌∙◌, ap₂, add-one, arith, length-drop, length-take-le, drop-drop}
+use Rattle.std.proofs.lemmas.List.{map-append, take-map, drop-map, length-replicate, drop-replicate}
+use lib.ListN.{length-map, length-set}
+use lib.Seq.{take-append-le, drop-append-le, take_all, take-suc, take-set-le, get_or-set_same}
+use borrow.Rule.Slice.PartMut.{post_of, mid_len}
 use lib.Ieee.{Float}
 use Rattle.definition.specs.Number.{to_float, zero64}
 use Rattle.definition.specs.Record.{number_of, words_of, floats_at, has_box, setup_in}
@@ -12,7 +13,7 @@ use Rattle.problem.specs.Setups as P
 use Rattle.problem.specs.declared.Options.{Options}
 use Rattle.record.specs.declared.Frame.{Frame}
 use Rattle.record.specs.Records.{words_in, most_floats, floats_of, setup_from, OptionsIn, Counted, Opens}
-use Rattle.record.proofs.Reading.{words_take, words-drop, options_setup}
+use Rattle.record.proofs.Reading.{words_take, words-drop, word-get, options_setup}
 
 -- ---- lists
 
@@ -25,55 +26,48 @@ part_within zero (suc n) (suc k) (x ∷ l) h = ap (λ r. x ∷ r) (part_within z
 part_within (suc j) (suc n) (suc k) [] h = refl
 part_within (suc j) (suc n) (suc k) (x ∷ l) h = part_within j (suc n) k l (omega arith)
 
-words_more : (i : ℕ) (bs : List ℕ) → words_of (suc i) bs ≡ words_of i bs ++ (number_of (take 8 (drop (8 * i) bs)) ∷ [])
-unfolding words_of
-words_more zero bs = refl
-words_more (suc i) bs =
-    let e : 8 + 8 * i ≡ 8 * suc i = omega arith in
-    ap (λ (l : List ℕ). number_of (take 8 bs) ∷ l)
-    (words_more i (drop 8 bs)
-    ∙ ap (λ (l : List ℕ). words_of i (drop 8 bs) ++ (number_of (take 8 l) ∷ [])) (drop-drop (8 * i) 8 bs ∙ ap (λ (j : ℕ). drop j bs) e))
+-- ---- the loop that fills the array: the first i of the places lent hold the floats of the words
 
--- ---- the loop that fills the array
+pub record Filling (bs : List ℕ) (at count : ℕ) (b : List Float) (i : ℕ) : Type 0 where
+  pub upto : i ≤ count
+  pub long : length b ≡ count
+  pub is : take i b ≡ map to_float (take i (words_of count (drop at bs)))
 
-set_next : (a : List Float) (d : ℕ) (x z : Float) → set (a ++ replicate (suc d) z) (length a) x ≡ a ++ (x ∷ []) ++ replicate d z
-set_next [] d x z = refl
-set_next (y ∷ a) d x z = ap (λ r. y ∷ r) (set_next a d x z)
-
-floats_next : (ws : List ℕ) (w : ℕ) (v : Float) → length ws < most_floats → v ≡ to_float w → set (floats_of ws) (length ws) v ≡ floats_of (ws ++ (w ∷ []))
-unfolding floats_of
-floats_next ws w v h e =
-    let left : most_floats - length ws ≡ suc (most_floats - suc (length ws)) = omega arith in
-    let size : length (ws ++ (w ∷ [])) ≡ suc (length ws) = length-append ws (w ∷ []) ∙ add-one (length ws) in
-    ap (λ (k : ℕ). set (map to_float ws ++ replicate k zero64) (length ws) v) left
-    ∙ ap (λ (k : ℕ). set (map to_float ws ++ replicate (suc (most_floats - suc (length ws))) zero64) k v) (sym (length-map ws to_float))
-    ∙ set_next (map to_float ws) (most_floats - suc (length ws)) v zero64
-    ∙ ap₂ (λ (x : Float) (k : ℕ). map to_float ws ++ (x ∷ []) ++ replicate (most_floats - k) zero64) e (sym size)
-    ∙ ap (λ (l : List Float). l ++ replicate (most_floats - length (ws ++ (w ∷ []))) zero64) (sym (map-append to_float ws (w ∷ [])))
-
-pub record Filling (bs : List ℕ) (at count : ℕ) (v : List Float) (i : ℕ) : Type 0 where
-  pub reach : i ≤ count
-  pub is : v ≡ floats_of (words_of i (drop at bs))
-
-pub filling_none : (bs : List ℕ) (at count : ℕ) (v : List Float) → v ≡ replicate most_floats zero64 → Filling bs at count v 0
-unfolding floats_of words_of
-filling_none bs at count v e = record { reach = omega arith; is = e }
-
-pub filling_more : {bs : List ℕ} {at count i w : ℕ} {v : List Float} {x : Float} → Filling bs at count v i → i < count → count ≤ most_floats
-    → w ≡ number_of (take 8 (drop (at + 8 * i) bs)) → x ≡ to_float w → Filling bs at count (set v i x) (i + 1)
-filling_more {bs} {at} {count} {i} {w} {v} {x} h l m e f =
-    let size : length (words_of i (drop at bs)) ≡ i = words_of-length i (drop at bs) in
-    let next : words_of (suc i) (drop at bs) ≡ words_of i (drop at bs) ++ (w ∷ [])
-    = words_more i (drop at bs) ∙ ap (λ (l : List ℕ). words_of i (drop at bs) ++ (number_of (take 8 l) ∷ [])) (drop-drop (8 * i) at bs)
-    ∙ ap (λ (k : ℕ). words_of i (drop at bs) ++ (k ∷ [])) (sym e) in
+pub filling_more : {bs : List ℕ} {at count i w : ℕ} {b : List Float} {x : Float} → Filling bs at count b i → i < count
+    → w ≡ number_of (take 8 (drop (at + 8 * i) bs)) → x ≡ to_float w → Filling bs at count (set b i x) (i + 1)
+filling_more {bs} {at} {count} {i} {w} {b} {x} h l e f =
+    let ws = words_of count (drop at bs) in
+    let here : i < length b = omega (arith, h.long) in
+    let word : w ≡ get_or ws i 0
+    = e ∙ ap (λ (r : List ℕ). number_of (take 8 r)) (sym (drop-drop (8 * i) at bs)) ∙ sym (word-get count i (drop at bs) l) in
     record {
-      reach = omega arith;
+      upto = omega arith;
+      long = length-set b i x ∙ h.long;
       is =
-          ap₂ (λ (r : List Float) (k : ℕ). set r k x) h.is (sym size)
-          ∙ floats_next (words_of i (drop at bs)) w x (omega (arith, size)) f
-          ∙ ap floats_of (sym next)
-          ∙ ap (λ (k : ℕ). floats_of (words_of k (drop at bs))) (sym (add-one i));
+          rw add-one
+          (take-suc (set b i x) i zero64 (omega (arith, length-set b i x))
+          ∙ ap₂ (λ (r : List Float) (v : Float). r ++ (v ∷ [])) (take-set-le i b i x (omega arith) ∙ h.is)
+          (get_or-set_same b i x zero64 here ∙ f ∙ ap to_float word)
+          ∙ sym (map-append to_float (take i ws) (get_or ws i 0 ∷ []))
+          ∙ ap (map to_float) (sym (take-suc ws i 0 (omega (arith, words_of-length count (drop at bs))))));
     }
+
+module _ {bs : List ℕ} {at count : ℕ} (zeros : List Float) (e : zeros ≡ replicate most_floats zero64) (most : count ≤ most_floats) where
+  pub filling_none : Filling bs at count (take (count - 0) (drop 0 zeros)) 0
+  filling_none =
+      let whole : count - 0 ≡ count = omega arith in
+      let room : count ≤ length zeros = omega (arith, ap length e ∙ length-replicate most_floats zero64) in
+      record { upto = omega arith; long = mid_len 0 count zeros room ∙ whole; is = refl }
+
+  pub filling_done : {b : List Float} {i : ℕ} → Filling bs at count b i → count ≤ i → b ++ post_of 0 (count - 0) zeros ≡ floats_of (words_of count (drop at bs))
+  unfolding floats_of
+  filling_done {b} {i} h l =
+      let ws = words_of count (drop at bs) in
+      let size : length ws ≡ count = words_of-length count (drop at bs) in
+      let all : b ≡ map to_float ws = sym (take_all i b (omega (arith, h.long))) ∙ h.is ∙ ap (map to_float) (take_all i ws (omega (arith, size))) in
+      let whole : count - 0 ≡ length ws = omega (arith, size) in
+      let rest : post_of 0 (count - 0) zeros ≡ replicate (most_floats - length ws) zero64 = rw (whole, e) (drop-replicate (length ws) most_floats zero64) in
+      λ k. all k ++ rest k
 
 -- ---- the vectors of a setup
 
@@ -154,5 +148,3 @@ module _ (bs : List ℕ) (area : ℕ) (o : Options) (f : Frame) (h : Opens bs ar
   -- the parts of its array are the vectors of the setup
   pub opened_setup : setup_from o (floats_of (take (f.setup - 7) (drop 7 (words_in f)))) f.n ≡ setup_in (words_in f)
   opened_setup = laid_setup f h.placed.counted h.whole o h.options
-
-pub ruleset laws = (rules, filling_more)

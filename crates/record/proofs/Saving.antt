@@ -6,8 +6,7 @@ use lib.ListN.{length-map, get_or-append}
 use lib.Ieee.{Float}
 use Rattle.definition.specs.Number.{to_word}
 use Rattle.definition.specs.Record as R
-use Rattle.definition.specs.Record.{box_flag, scheme_flag, bound_words, setup_words, sums_from, sums, bytes_of, bytes, added, trailer, record_words}
-use Rattle.definition.specs.Record.{record_bytes}
+use Rattle.definition.specs.Record.{box_flag, bound_words, setup_words, sums_from, sums, bytes_of, bytes, added, trailer}
 use Rattle.definition.proofs.Bytes.{bytes-length, bytes-append}
 use Rattle.problem.specs.declared.Options.{Options}
 use Rattle.problem.specs.Setups as P

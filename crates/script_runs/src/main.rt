@@ -13,7 +13,7 @@ use script::{Answer, Inputs, Ran};
 use search::{Search, Step, Trials};
 use std::{fmt, io};
 
-// Kept: numbers, since a script is words.
+// Kept: these eleven are numbers, since a script is words; an enum would be turned into words at each of its calls.
 const START: u64 = 0;
 
 const VALUE: u64 = 1;

@@ -1,7 +1,6 @@
 -- What the search hands back where it hands back no trial after one that is not accepted. Assumes nothing.
 use mathlib.Core.Path.{◌≡◌, refl}
 use Rattle.definition.specs.Search as S
-use Rattle.definition.specs.Search.{goes_on}
 use Rattle.search.specs.State.{verdict_of}
 use Rattle.search.specs.declared.Search.{Search}
 use Rattle.search.specs.declared.Verdict.{Verdict}

@@ -21,7 +21,7 @@ pub struct Step {
 }
 
 // The number of the trial, whether the limit is where a bound is met, and whether there is a high end.
-// Kept: a flag beside the float, by the same rule.
+// Kept: flags beside the floats. By that rule the record is of floats alone: an absent high end stands there as 0.
 #[derive(Clone, Copy, Debug, Default)]
 pub struct Trials {
     pub count: usize,

@@ -23,7 +23,7 @@ use Rattle.definition.specs.Solve.{pivots, on_column, column, triangular, backwa
 use Rattle.area.proofs.Laws.{looped_stays, fold_first}
 use Rattle.solve.specs.declared.Cleared.{Cleared}
 use Rattle.solve.specs.declared.factors.Factors.{Factors}
-use Rattle.solve.specs.Steps.{cleared_to, stepped, forward_to, Eliminates, OrderInRange, regular}
+use Rattle.solve.specs.Steps.{cleared_to, stepped, forward_to, Eliminates, regular}
 use Rattle.solve.specs.Factors.{Clears, Triangular, Factored, solved_by}
 
 -- ---- a loop over a .. n - 1: s is what z has become at turn i
@@ -167,13 +167,6 @@ pub zeros_within : (n j : ℕ) → get_or (replicate n 0) j 0 < 32
 zeros_within zero j = lit< tt
 zeros_within (suc n) zero = lit< tt
 zeros_within (suc n) (suc j) = zeros_within n j
-
-pub set_within : (p : List ℕ) (k q j : ℕ) → q < 32 → OrderInRange p → get_or (set p k q) j 0 < 32
-set_within [] k q j l r = r j
-set_within (x ∷ p) zero q zero l r = l
-set_within (x ∷ p) zero q (suc j) l r = r (suc j)
-set_within (x ∷ p) (suc k) q zero l r = r zero
-set_within (x ∷ p) (suc k) q (suc j) l r = set_within p k q j l (λ i. r (suc i))
 
 pub columns_none : {n : ℕ} {scale : Float} {a f : Matrix} {p : List ℕ} → length f ≡ 32 → length p ≡ 32 → Columns n scale a a f p 0
 unfolding forward_to fold_to

@@ -16,6 +16,7 @@ use crate::{Cleared, Matrix, Row, SIZE, column, regular, scale};
 #[derive(Drop)]
 pub struct Factors {
     pub rows: Matrix,
+    // Kept: two arrays. The law of the elimination takes them apart, so an array of pairs would be read by two maps in each contract.
     pub multipliers: Matrix,
     pub order: [usize; SIZE],
     pub complete: bool,

@@ -16,7 +16,8 @@ use Rattle.area.specs.Area.{Vecs, fold_rows}
 use Rattle.compact.specs.declared.Shape.{Shape}
 use Rattle.compact.specs.declared.Model.{Model}
 use Rattle.compact.specs.State.{column_slot, compact_of, Modelled}
-use Rattle.compact.proofs.Laws.{tab_same, fold_same, padded-get, pairs_count}
+use Rattle.area.proofs.Folds.{fold_same}
+use Rattle.compact.proofs.Laws.{tab_same, padded-get, pairs_count}
 use Rattle.subspace.specs.State.{free_in, columns_in, grid, row_each, each, product_to, four_to, add_rows, Held, add_free, reduced_by, free_sum_at, reduced_at}
 use Rattle.subspace.proofs.Laws.{reduced_is}
 

@@ -1,9 +1,8 @@
 -- Laws of the free coordinates and of the columns of W over them. Assumes nothing.
 use mathlib.Core.Path.{◌≡◌, refl, sym, ap, ◌∙◌}
 use mathlib.Core.Bool.{Bool, true, false, cond, ◌||◌}
-use mathlib.Core.List.{List, [], ◌∷◌, ◌++◌, map}
+use mathlib.Core.List.{List, [], ◌∷◌, map}
 use Rattle.std.specs.List.{list_any, filter, fold, range_with_len}
-use Rattle.std.proofs.lemmas.List.Sums.{fold-append}
 use Rattle.std.proofs.lemmas.List.Recursion.{or_push}
 use Prim.Native.Nat.{ℕ, zero, suc, ◌+◌, ◌*◌, ◌≤◌, ◌<◌}
 use native.Mathlib.Numerals.{add-one}
@@ -15,11 +14,12 @@ use Rattle.definition.specs.Solve.{entry}
 use Rattle.definition.specs.Compact.{column_word}
 use Rattle.definition.specs.Geometry.{free, free_sum, correction}
 use Rattle.area.specs.Area.{Vecs, bounds_of, upd, view, words_at, rowwise, fold_rows, fill_of, vector_cauchy, vector_product_d, vector_step}
+use Rattle.area.proofs.Folds.{fold_same, range_more, folded}
 use Rattle.area.proofs.Laws.{upd_other, word-view}
 use Rattle.compact.specs.declared.Shape.{Shape}
 use Rattle.compact.specs.declared.Model.{Model}
 use Rattle.compact.specs.State.{column_slot, compact_of, Laid, Modelled}
-use Rattle.compact.proofs.Laws.{tab-get, tab_same, fold_same, pairs_count}
+use Rattle.compact.proofs.Laws.{tab-get, tab_same, pairs_count}
 use Rattle.compact.proofs.Columns.{laid_word}
 use Rattle.compact.proofs.Laws.{upd_twice}
 use Rattle.compact.proofs.Models.{modelled_entry}
@@ -29,31 +29,6 @@ use Rattle.subspace.specs.State.{coordinate_of, free_of, free_in, free_term, any
 -- whether a coordinate is free, read off the words at its index
 pub is_free_in : (w : ℕ → Float) {k : Coordinate} {t : Bool} → k ≡ coordinate_of w → t ≡ free_of k → free_in w ≡ t
 is_free_in w e f = sym (f ∙ ap free_of e)
-
--- ---- over the indices of the coordinates
-
-range_from : (a n : ℕ) → range_with_len a (suc n) ≡ range_with_len a n ++ ((a + n) ∷ [])
-range_from a zero = let e : a ≡ a + 0 = omega arith in ap (λ (k : ℕ). k ∷ []) e
-range_from a (suc n) =
-    let e : a + 1 + n ≡ a + suc n = omega arith in
-    ap (λ l. a ∷ l) (range_from (a + 1) n ∙ ap (λ (k : ℕ). range_with_len (a + 1) n ++ (k ∷ [])) e)
-
-range_more : (n : ℕ) → range_with_len 0 (suc n) ≡ range_with_len 0 n ++ (n ∷ [])
-range_more n = let e : 0 + n ≡ n = omega arith in rw e at (range_from 0 n)
-
-fold_range : {A : Type 0} (step : A → ℕ → A) (z : A) (n : ℕ) → fold step z (range_with_len 0 n) ≡ fold_to n (λ i s. step s i) z
-unfolding fold_to
-fold_range step z zero = refl
-fold_range step z (suc n) =
-    ap (fold step z) (range_more n) ∙ fold-append step z (range_with_len 0 n) (n ∷ []) ∙ ap (λ s. step s n) (fold_range step z n)
-
--- the words at each index in turn
-pub folded : {A : Type 0} (a : List Float) (n : ℕ) (h : ℕ → (ℕ → Float) → A → A) (z : A)
-    → fold (λ s i. h i (words_at a n i) s) z (range_with_len 0 n) ≡ fold_rows z h n (view a n)
-unfolding fold_rows
-folded a n h z =
-    fold_range (λ s i. h i (words_at a n i) s) z n
-    ∙ fold_same n (λ i s. h i (words_at a n i) s) _ z (λ i s l k. h i (λ (q : ℕ). word-view a n q i l k) s)
 
 -- ---- whether any coordinate is free
 

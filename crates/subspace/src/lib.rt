@@ -124,7 +124,7 @@ fn add_gradient(area: &mut [f64], n: usize)
 }
 
 // The residual in its vector; false where there is no product with the displacement.
-// Kept: fixed memory. The residual stands in the lent area, so a bool says whether it is there.
+// Kept: a bool. An `Option` would hold the residual by value, and what reads it looks in the area.
 fn residual(area: &mut [f64], model: &compact::Model) -> bool
     requires { Ready model.now area.old }
     ensures { let h = model.now.shape in
@@ -332,7 +332,7 @@ fn corrections(area: &mut [f64], model: &compact::Model, weights: Row)
 }
 
 // The steps, by the reduced system's weights where there are pairs.
-// Kept: fixed memory. The steps stand in the lent area, so a bool says whether they are there.
+// Kept: a bool. An `Option` would hold the steps by value, and what reads them looks in the area.
 fn steps(area: &mut [f64], model: &compact::Model) -> bool
     requires { Ready model.now area.old }
     ensures { let h = model.now.shape in
@@ -376,7 +376,7 @@ fn share(area: &[f64], n: usize) -> f64
 }
 
 // The target: the Cauchy point, its free coordinates moved by alpha times the step and brought into the box.
-// Kept: fixed memory. The target stands in the lent area, so a bool says whether there is one.
+// Kept: a bool. An `Option` would hold the target by value, and what reads it looks in the area.
 fn moved(area: &mut [f64], n: usize, alpha: f64) -> bool
     requires { first_pair * n ≤ length area.old }
     ensures { Makes vector_target (moved_at n (view area.old n) alpha) (view area.old n) result (view area.new n) }
@@ -391,7 +391,7 @@ fn moved(area: &mut [f64], n: usize, alpha: f64) -> bool
 }
 
 // The target by the share that the bounds leave, where the steps are finite.
-// Kept: fixed memory. The target stands in the lent area, so a bool says whether there is one.
+// Kept: a bool. An `Option` would hold the target by value, and what reads it looks in the area.
 fn move_by_share(area: &mut [f64], n: usize) -> bool
     requires { first_pair * n ≤ length area.old }
     ensures { Makes vector_target (moved_by_share_at n (view area.old n)) (view area.old n) result (view area.new n) }
@@ -403,7 +403,7 @@ fn move_by_share(area: &mut [f64], n: usize) -> bool
 }
 
 // The target where a coordinate is free.
-// Kept: fixed memory. The target stands in the lent area, so a bool says whether there is one.
+// Kept: a bool. An `Option` would hold the target by value, and what reads it looks in the area.
 fn minimize_free(area: &mut [f64], model: &compact::Model) -> bool
     requires { Ready model.now area.old }
     ensures { let h = model.now.shape in
@@ -420,7 +420,7 @@ fn minimize_free(area: &mut [f64], model: &compact::Model) -> bool
 }
 
 // `primal_minimize`: the minimum over the free coordinates of the Cauchy point becomes the target; false where there is none.
-// Kept: fixed memory. The target stands in the lent area, so a bool says whether there is one.
+// Kept: a bool. An `Option` would hold the target by value, and what reads it looks in the area.
 pub fn primal_minimize(area: &mut [f64], model: &compact::Model) -> bool
     requires { Ready model.now area.old }
     ensures { let h = model.now.shape in

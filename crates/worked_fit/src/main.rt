@@ -9,14 +9,6 @@ const AREA: usize = 552;
 
 const LOG: usize = 128;
 
-// A box, and the default for everything else.
-fn options() -> Options {
-    Options {
-        bounded: true,
-        ..lbfgsb::no_options()
-    }
-}
-
 // ---- the objective
 
 // A point, shown by its words.
@@ -119,7 +111,10 @@ fn main(rt: HostRuntime) -> io::Result<()> {
     let mut area = [0.0f64; AREA];
     let mut log = [0u64; LOG];
     let setup = Setup {
-        options: options(),
+        options: Options {
+            bounded: true,
+            ..lbfgsb::no_options()
+        },
         x0: &[-1.0f64, 1.0],
         lower: &[-2.0f64, -2.0],
         upper: &[0.5f64, 2.0],

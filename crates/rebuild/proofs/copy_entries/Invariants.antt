@@ -3,4 +3,4 @@ use Rattle.rebuild.proofs.Pasted.{Copying}
 use Rattle.rebuild.proofs.copy_entries.Given as goal
 
 abbrev pub invariant-loop-i : goal.invariant-loop-i
-invariant-loop-i l = Copying l.initial.log l.bytes l.count l.log l.i
+invariant-loop-i l = Copying l.bytes l.count l.word-items l.i

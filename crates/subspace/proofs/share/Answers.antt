@@ -10,7 +10,7 @@ use Rattle.definition.specs.Geometry.{share_of}
 use Rattle.float.proofs.Constants.{one_is}
 use Rattle.area.specs.Area.{words_at, fold_rows}
 use Rattle.subspace.specs.State.{share_in}
-use Rattle.subspace.proofs.Laws.{folded}
+use Rattle.area.proofs.Folds.{folded}
 use Rattle.subspace.proofs.share.Goals as goal
 
 pub returns : goal.returns

@@ -13,7 +13,7 @@ use Rattle.area.specs.Area.{words_at, fold_rows}
 use Rattle.search.specs.declared.Limit.{Limit}
 use Rattle.search.specs.State.{limit_of}
 use Rattle.trial.specs.Words.{distance_in}
-use Rattle.trial.proofs.Laws.{folded}
+use Rattle.area.proofs.Folds.{folded}
 use Rattle.trial.proofs.limit_of.Goals as goal
 
 pub returns : goal.returns

@@ -10,7 +10,7 @@ use Rattle.definition.specs.Driver.{projected_norm}
 use Rattle.float.proofs.Constants.{zero_is}
 use Rattle.area.specs.Area.{words_at, fold_rows}
 use Rattle.trial.specs.Words.{projected_in}
-use Rattle.trial.proofs.Laws.{folded}
+use Rattle.area.proofs.Folds.{folded}
 use Rattle.trial.proofs.projected_norm.Goals as goal
 
 pub returns : goal.returns
