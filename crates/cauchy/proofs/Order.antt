@@ -9,9 +9,9 @@ use native.Mathlib.Numerals.{add-one}
 use native.Mathlib.Omega.{arith}
 use borrow.Author.Tests.{leb-true, leb-false, le-leb, ltb-true, ltb-false}
 use lib.Dec.{ltb}
-use lib.ListN.{length, get_or, take, drop, set, length-set, length-take, length-append, length-map, get_or-map}
-use lib.Seq.{take-suc, take-suc-set, take-set-le, get_or-set_same, get_or-set_other, ext_get_or, take_all, take-append-le}
-use Rattle.std.specs.List.{suffix_len, refill}
+use lib.ListN.{length, get_or, take, set, length-set, length-take, length-map, get_or-map}
+use lib.Seq.{take-suc, take-suc-set, take-set-le, get_or-set_same, get_or-set_other, ext_get_or, get_or-take, length-take-le}
+use Rattle.std.specs.List.{suffix_len}
 use Rattle.std.proofs.lemmas.List.Sums.{suffix_len-take_yes, suffix_len-take_no, suffix_len-le-length}
 use lib.Ieee.{Float}
 use lib.Ieee.Scale.{finite}
@@ -202,21 +202,16 @@ sift_is (suc k) bs t h r =
     (sift_is k (moved_up k bs) t (rw (length-set bs (suc k) (get_or bs k no_break_time)) q) (rw low (rising_front 0 (map break_of (take k bs)) e s)))
     ∙ rw (low, firsts bs k q) (sym (inserted_before (map break_of (take k bs)) e (break_of t) y))))
 
--- the last of the list, put in its place
-pub inserts : {b : Breaks} (t : BreakTime) {k : ℕ} {more list r : List BreakTime} → Ordered b → k ≡ length b.list.items → more ≡ b.list.items ++ (t ∷ [])
-    → list ≡ more → r ≡ sift k list t → Inserted b t (record { list = record { items = refill (length more) more r } })
-inserts {b} t {k} {more} {list} {r} o e f g h =
-    let xs = b.list.items in
-    let n = length xs in
-    let long : length more ≡ suc n = rw f (length-append xs (t ∷ []) ∙ (let z : n + 1 ≡ suc n = omega arith in z)) in
-    let whole : r ≡ sift n more t = h ∙ rw (e, g) refl in
-    let same : length r ≡ suc n = ap length whole ∙ sift_length n more t ∙ long in
-    let front : take n more ≡ xs = rw f (take-append-le n xs (t ∷ []) (omega arith) ∙ take_all n xs (omega arith)) in
-    let all : take (length more) (r ++ drop (length r) more) ≡ r =
-    rw long (take-append-le (suc n) r (drop (length r) more) (omega arith) ∙ take_all (suc n) r (omega arith)) in
-    ap (map break_of) (all ∙ whole ∙ sym (take_all (suc n) (sift n more t) (omega (arith, sift_length n more t))))
-    ∙ sift_is n more t (omega arith) (rw front o.rising)
-    ∙ ap (λ (l : List BreakTime). inserted (break_of t) (map break_of l)) front
+-- r is the list with t in its place
+pub inserts : {b : Breaks} {t : BreakTime} {r : List BreakTime} → Ordered b → r ≡ sift b.count b.list t
+    → Inserted b t (record { list = r; count = b.count + 1 })
+inserts {b} {t} {r} o e =
+    let h : b.count < length b.list = rw o.long o.room in
+    record {
+      long = ap length e ∙ sift_length b.count b.list t ∙ o.long;
+      count = refl;
+      is = rw (add-one, e) (sift_is b.count b.list t h o.rising);
+    }
 
 -- ---- what the definition finds
 
@@ -266,47 +261,33 @@ below_get n [] i r h = absurd (omega arith)
 below_get n (b ∷ bs) zero r h = r.0
 below_get n (b ∷ bs) (suc i) r h = below_get n bs i r.1 (le_of_suc-le-suc h)
 
-inserted_length : (b : Break) (bs : List Break) → length (inserted b bs) ≡ suc (length bs)
-unfolding inserted
-inserted_length b [] = refl
-inserted_length b (c ∷ cs) =
-    by_test (λ (t : Bool). length (cond t (c ∷ inserted b cs) (b ∷ c ∷ cs)) ≡ suc (suc (length cs))) (total_le c.time b.time)
-    (λ e. ap suc (inserted_length b cs))
-    (λ e. refl)
-
-found_length : (n : ℕ) (b : Bounds) (x g : List Float) → length (breaks_of n b x g) ≤ n
-unfolding breaks_of fold_to
-found_length zero b x g = omega arith
-found_length (suc n) b x g =
-    by_test (λ (t : Bool). length (cond t (inserted (record { time = break_time b x g n; coordinate = n }) (breaks_of n b x g)) (breaks_of n b x g)) ≤ suc n)
-    (finite (break_time b x g n))
-    (λ e. omega (arith, inserted_length (record { time = break_time b x g n; coordinate = n }) (breaks_of n b x g), found_length n b x g))
-    (λ e. omega (arith, found_length n b x g))
-
--- ---- a break read off the vector
+-- ---- a break read off the array
 
 pub get_any : {A : Type 0} (bs : List A) (i : ℕ) (c d : A) → i < length bs → get_or bs i c ≡ get_or bs i d
 get_any [] i c d h = absurd (omega arith)
 get_any (b ∷ bs) zero c d h = refl
 get_any (b ∷ bs) (suc i) c d h = get_any bs i c d (le_of_suc-le-suc h)
 
-pub breaks_length : (b : Breaks) → length (break_list b) ≡ length b.list.items
-breaks_length b = length-map b.list.items break_of
+pub breaks_length : (b : Breaks) → b.count ≤ length b.list → length (break_list b) ≡ b.count
+breaks_length b h = length-map (take b.count b.list) break_of ∙ length-take-le b.count b.list h
 
-pub break_get : (b : Breaks) (i : ℕ) → i < length b.list.items → get_or (break_list b) i no_break ≡ break_of (get_or b.list.items i no_break_time)
-break_get b i h =
-    get_any (break_list b) i no_break (break_of no_break_time) (rw (breaks_length b) h)
-    ∙ get_or-map break_of b.list.items i no_break_time
+pub break_get : (b : Breaks) (i : ℕ) → i < b.count → b.count ≤ length b.list → get_or (break_list b) i no_break ≡ break_of (get_or b.list i no_break_time)
+break_get b i h l =
+    get_any (break_list b) i no_break (break_of no_break_time) (rw (breaks_length b l) h)
+    ∙ get_or-map break_of (take b.count b.list) i no_break_time
+    ∙ ap break_of (get_or-take b.count b.list i no_break_time h)
 
 -- ---- the loop that finds them: b holds the breaks of the first i coordinates
 
 pub record Finding (n : ℕ) (v : Vecs) (i : ℕ) (b : Breaks) : Type 0 where
   pub upto : i ≤ n
+  pub long : length b.list ≡ most_coordinates
+  pub count : b.count ≤ i
   pub is : break_list b ≡ breaks_of i (bounds_of v) (v vector_x) (v vector_g)
 
-pub finding_none : {n : ℕ} {v : Vecs} {b : Breaks} → break_list b ≡ [] → Finding n v 0 b
+pub finding_none : {n : ℕ} {v : Vecs} {b : Breaks} → length b.list ≡ most_coordinates → b.count ≡ 0 → Finding n v 0 b
 unfolding breaks_of fold_to
-finding_none e = record { upto = omega arith; is = e }
+finding_none {b = b} l e = record { upto = omega arith; long = l; count = omega arith; is = rw e refl }
 
 pub finding_more : {n : ℕ} (a : List Float) {i : ℕ} {b : Breaks} {t : Float} {r : Breaks}
     → Finding n (view a n) i b → i < n → t ≡ break_time_in (words_at a n i) → Kept b t i r → Finding n (view a n) (i + 1) r
@@ -315,26 +296,27 @@ finding_more {n} a {i} {b} {t} {r} f h e k =
     let q : t ≡ break_time (bounds_of v) (v vector_x) (v vector_g) i = e ∙ ap break_time_in (words-view a n i h) in
     record {
       upto = omega arith;
-      is = k ∙ rw (add-one, q, f.is) (sym (breaks_more i (bounds_of v) (v vector_x) (v vector_g)));
+      long = k.long;
+      count = omega (arith, k.count, f.count);
+      is = k.is ∙ rw (add-one, q, f.is) (sym (breaks_more i (bounds_of v) (v vector_x) (v vector_g)));
     }
 
 pub finding_ordered : {n : ℕ} {v : Vecs} {i : ℕ} {b : Breaks} → Finding n v i b → i < n → n ≤ most_coordinates → Ordered b
-finding_ordered {n} {v} {i} {b} f h l = record {
-  room =
-      let e : length b.list.items ≡ length (breaks_of i (bounds_of v) (v vector_x) (v vector_g)) = sym (breaks_length b) ∙ ap length f.is in
-      omega (arith, found_length i (bounds_of v) (v vector_x) (v vector_g));
-  rising = rw f.is (rising_found i (bounds_of v) (v vector_x) (v vector_g));
-}
+finding_ordered {n} {v} {i} {b} f h l =
+    record { long = f.long; room = omega (arith, f.count); rising = rw f.is (rising_found i (bounds_of v) (v vector_x) (v vector_g)) }
 
-pub finding_done : {n : ℕ} {v : Vecs} {i : ℕ} {b : Breaks} → Finding n v i b → n ≤ i → Found n v b
-finding_done {n} {v} {i} {b} f h =
+pub finding_done : {n : ℕ} {v : Vecs} {i : ℕ} {b : Breaks} → Finding n v i b → n ≤ i → n ≤ most_coordinates → Found n v b
+finding_done {n} {v} {i} {b} f h l =
     let e : i ≡ n = omega (arith, f.upto) in
     let is : break_list b ≡ breaks_of n (bounds_of v) (v vector_x) (v vector_g) = rw e at f.is in
+    let few : b.count ≤ length b.list = omega (arith, f.count, f.long) in
     record {
       listed = record {
+        long = f.long;
+        few = omega (arith, f.count);
         within = λ k m.
-            rw (break_get b k m) at
-            (below_get n (break_list b) k (rw is (below_found n (bounds_of v) (v vector_x) (v vector_g))) (rw (breaks_length b) m));
+            rw (break_get b k m few) at
+            (below_get n (break_list b) k (rw is (below_found n (bounds_of v) (v vector_x) (v vector_g))) (rw (breaks_length b few) m));
       };
       is = is;
     }

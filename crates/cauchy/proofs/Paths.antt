@@ -7,8 +7,8 @@ use Rattle.std.specs.Borrow.{Bor}
 use Prim.Native.Nat.{ℕ, zero, suc, ◌+◌, ◌-◌, ◌*◌, ◌≤◌, ◌<◌}
 use native.Mathlib.Omega.{arith}
 use borrow.Author.Tests.{not-true, not-false}
-use lib.ListN.{length, get_or, take, drop, length-drop}
-use lib.Seq.{take-suc, take_all, get_or-drop}
+use lib.ListN.{length, get_or, take, drop, length-take, length-drop}
+use lib.Seq.{take-suc, take_all, get_or-take, get_or-drop, length-take-le}
 use lib.Ieee as Ieee
 use Rattle.std.specs.List.{list_all}
 use Rattle.std.proofs.lemmas.List.Recursion.{and_push}
@@ -123,48 +123,48 @@ module _ (b : Bounds) (x : List Float) (bs : List Break) (t : Float) (k : ℕ) (
 
 -- the path p with the vectors a is on its way from p₀ with a₀
 pub record Stopping (b : Breaks) (t : Float) (p₀ : Path) (a₀ : Vecs) (p : Path) (a : Vecs) : Type 0 where
-  pub is : stop_all (length b.list.items - p.event) (bounds_of a₀) (a₀ vector_x) (break_list b) t (path_of p a)
-      ≡ stop_all (length b.list.items - p₀.event) (bounds_of a₀) (a₀ vector_x) (break_list b) t (path_of p₀ a₀)
+  pub is : stop_all (b.count - p.event) (bounds_of a₀) (a₀ vector_x) (break_list b) t (path_of p a)
+      ≡ stop_all (b.count - p₀.event) (bounds_of a₀) (a₀ vector_x) (break_list b) t (path_of p₀ a₀)
   pub breaks : p.breaks.now ≡ p₀.breaks.now
   pub kept : ScratchOnly a₀ a
 
 -- past the last break, and before one at another time
-pub stopping_past : {b : Breaks} {t : Float} {p₀ : Path} {a₀ : Vecs} {p : Path} {a : Vecs} → Stopping b t p₀ a₀ p a → length b.list.items ≤ p.event
-    → Travels (stop_all (length b.list.items - p₀.event) (bounds_of a₀) (a₀ vector_x) (break_list b) t) p₀ a₀ p a
+pub stopping_past : {b : Breaks} {t : Float} {p₀ : Path} {a₀ : Vecs} {p : Path} {a : Vecs} → Stopping b t p₀ a₀ p a → b.count ≤ p.event
+    → Travels (stop_all (b.count - p₀.event) (bounds_of a₀) (a₀ vector_x) (break_list b) t) p₀ a₀ p a
 stopping_past {b} {t} {p₀} {a₀} {p} {a} s h =
     record {
-      is = sym (stop_past (bounds_of a₀) (a₀ vector_x) (break_list b) t (length b.list.items) (path_of p a) h) ∙ s.is;
+      is = sym (stop_past (bounds_of a₀) (a₀ vector_x) (break_list b) t b.count (path_of p a) h) ∙ s.is;
       breaks = s.breaks;
       kept = s.kept;
     }
 
 pub stopping_rest : {n : ℕ} {b : Breaks} {t : Float} {p₀ : Path} {a₀ : Vecs} {p : Path} {a : Vecs} {k : BreakTime} → Listed n b → Stopping b t p₀ a₀ p a
-    → p.event < length b.list.items → k ≡ get_or b.list.items p.event no_break_time → Ieee.eq k.time t ≡ false
-    → Travels (stop_all (length b.list.items - p₀.event) (bounds_of a₀) (a₀ vector_x) (break_list b) t) p₀ a₀ p a
+    → p.event < b.count → k ≡ get_or b.list p.event no_break_time → Ieee.eq k.time t ≡ false
+    → Travels (stop_all (b.count - p₀.event) (bounds_of a₀) (a₀ vector_x) (break_list b) t) p₀ a₀ p a
 stopping_rest {n} {b} {t} {p₀} {a₀} {p} {a} {k} l s h e f =
-    let g : get_or (break_list b) p.event no_break ≡ break_of k = break_get b p.event h ∙ ap break_of (sym e) in
+    let g : get_or (break_list b) p.event no_break ≡ break_of k = break_get b p.event h (omega (arith, l.few, l.long)) ∙ ap break_of (sym e) in
     record {
-      is = sym (stop_rest (bounds_of a₀) (a₀ vector_x) (break_list b) t (length b.list.items) (path_of p a) h (rw g f)) ∙ s.is;
+      is = sym (stop_rest (bounds_of a₀) (a₀ vector_x) (break_list b) t b.count (path_of p a) h (rw g f)) ∙ s.is;
       breaks = s.breaks;
       kept = s.kept;
     }
 
 pub stopping_more : {n : ℕ} {b : Breaks} {t : Float} {p₀ : Path} {a₀ : Vecs} {p : Path} {a : Vecs} {k : BreakTime} {q : Path} {c : Vecs} → Listed n b
     → Stopping b t p₀ a₀ p a
-    → p.event < length b.list.items → k ≡ get_or b.list.items p.event no_break_time → Ieee.eq k.time t ≡ true
+    → p.event < b.count → k ≡ get_or b.list p.event no_break_time → Ieee.eq k.time t ≡ true
     → Travels (stopped (bounds_of a) (a vector_x) k.coordinate) p a q c
     → Stopping b t p₀ a₀ q c
 stopping_more {n} {b} {t} {p₀} {a₀} {p} {a} {k} {q} {c} l s h e f r =
-    let g : get_or (break_list b) p.event no_break ≡ break_of k = break_get b p.event h ∙ ap break_of (sym e) in
+    let g : get_or (break_list b) p.event no_break ≡ break_of k = break_get b p.event h (omega (arith, l.few, l.long)) ∙ ap break_of (sym e) in
     record {
       is =
-          ap (λ (d : D.Path). stop_all (length b.list.items - d.event) (bounds_of a₀) (a₀ vector_x) (break_list b) t d) r.is
-          ∙ (λ i. stop_all (length b.list.items - (p.event + 1)) (bounds_of a₀) (a₀ vector_x) (break_list b) t
+          ap (λ (d : D.Path). stop_all (b.count - d.event) (bounds_of a₀) (a₀ vector_x) (break_list b) t d) r.is
+          ∙ (λ i. stop_all (b.count - (p.event + 1)) (bounds_of a₀) (a₀ vector_x) (break_list b) t
           (stopped (bounds_kept s.kept i) (s.kept.low vector_x (omega arith) i) k.coordinate (path_of p a)))
-          ∙ ap (λ (d : Break). stop_all (length b.list.items - (p.event + 1)) (bounds_of a₀) (a₀ vector_x) (break_list b) t
+          ∙ ap (λ (d : Break). stop_all (b.count - (p.event + 1)) (bounds_of a₀) (a₀ vector_x) (break_list b) t
           (stopped (bounds_of a₀) (a₀ vector_x) d.coordinate (path_of p a)))
           (sym g)
-          ∙ sym (stop_next (bounds_of a₀) (a₀ vector_x) (break_list b) t (length b.list.items) (path_of p a) h (rw g f))
+          ∙ sym (stop_next (bounds_of a₀) (a₀ vector_x) (break_list b) t b.count (path_of p a) h (rw g f))
           ∙ s.is;
       breaks = r.breaks ∙ s.breaks;
       kept = scratch_trans s.kept r.kept;
@@ -187,16 +187,23 @@ breaks_behind n road source count same = YieldsList-from_skip n (YieldsList-at (
 
 -- the break at a turn of the loop
 pub entry_is : (b : Breaks) (n : ℕ) {k : ℕ} (p : Path) {x : BreakTime} → p.event ≡ n + k
-    → (k < length (drop n b.list.items)) × (x ≡ get_or (drop n b.list.items) k x)
-    → (p.event < length b.list.items) × (x ≡ get_or b.list.items p.event no_break_time)
+    → (k < length (drop n (take b.count b.list))) × (x ≡ get_or (drop n (take b.count b.list)) k x)
+    → (p.event < b.count) × (x ≡ get_or b.list p.event no_break_time)
 entry_is b n {k} p {x} e t =
-    let items = b.list.items in
+    let items = take b.count b.list in
     let below : p.event < length items = omega (arith, t.0, length-drop n items) in
-    (below, t.1 ∙ get_or-drop n items k x ∙ ap (λ (i : ℕ). get_or items i x) (sym e) ∙ get_any items p.event x no_break_time below)
+    let few : p.event < b.count = omega (arith, below, length-take b.count b.list) in (
+      few,
+      t.1 ∙ get_or-drop n items k x ∙ ap (λ (i : ℕ). get_or items i x) (sym e) ∙ get_any items p.event x no_break_time below
+          ∙ get_or-take b.count b.list p.event no_break_time few,
+    )
 
 -- and past the last
-pub none_left : (b : Breaks) (n : ℕ) {k : ℕ} (p : Path) → p.event ≡ n + k → k ≡ length (drop n b.list.items) → length b.list.items ≤ p.event
-none_left b n p e l = omega (arith, length-drop n b.list.items)
+pub none_left : {m : ℕ} (b : Breaks) (n : ℕ) {k : ℕ} (p : Path) → Listed m b → p.event ≡ n + k → k ≡ length (drop n (take b.count b.list))
+    → b.count ≤ p.event
+none_left b n p h e l =
+    let long : length (take b.count b.list) ≡ b.count = length-take-le b.count b.list (omega (arith, h.few, h.long)) in
+    omega (arith, long, length-drop n (take b.count b.list))
 
 pub stopped_event : {F : D.Path → D.Path} {p : Path} {a : Vecs} {q : Path} {c : Vecs} → Travels F p a q c → q.event ≡ (F (path_of p a)).event
 stopped_event r = ap (λ (d : D.Path). d.event) r.is
@@ -204,11 +211,11 @@ stopped_event r = ap (λ (d : D.Path). d.event) r.is
 -- ---- past a segment
 
 pub passes : {n : ℕ} {b : Breaks} {t : Float} {p : Path} {v v₁ : Vecs} {q : Path} {v₂ : Vecs} → Listed n b → v₁ ≡ travelled_of n (minus t p.previous) v
-    → Travels (stop_all (length b.list.items - p.event) (bounds_of v₁) (v₁ vector_x) (break_list b) t) p v₁ q v₂
+    → Travels (stop_all (b.count - p.event) (bounds_of v₁) (v₁ vector_x) (break_list b) t) p v₁ q v₂
     → Travels (passed n (bounds_of v) (v vector_x) (break_list b) t) p v (record { breaks = q.breaks; previous = t; event = q.event }) v₂
 unfolding passed rowwise
 passes {n} {b} {t} {p} {v} {v₁} {q} {v₂} l e r =
-    let m : length (break_list b) ≡ length b.list.items = breaks_length b in
+    let m : length (break_list b) ≡ b.count = breaks_length b (omega (arith, l.few, l.long)) in
     record {
       is = ap (reached t) r.is ∙ rw (e, m) refl;
       breaks = r.breaks;

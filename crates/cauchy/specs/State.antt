@@ -1,5 +1,5 @@
--- The projected path read off the area: its direction, displacement and met bounds are scratch vectors, its breaks a vector of fixed room.
-use Rattle.std.specs.Prelude.{ℕ, zero, suc, ◌≤◌, ◌<◌, ◌≡◌, Bool, cond, ◌&&◌, ◌||◌, List, [], ◌∷◌, map, length, get_or, set, Float}
+-- The projected path read off the area: its direction, displacement and met bounds are scratch vectors, its breaks an array with a count.
+use Rattle.std.specs.Prelude.{ℕ, zero, suc, ◌+◌, ◌≤◌, ◌<◌, ◌≡◌, Bool, cond, ◌&&◌, ◌||◌, List, [], ◌∷◌, map, length, take, get_or, set, Float}
 use Rattle.std.specs.Prelude.{Option}
 use Rattle.std.specs.declared.ops.ControlFlow.{ControlFlow}
 use Rattle.std.specs.declared.ops.ControlFlow.TheVariants.{Continue, Break}
@@ -32,8 +32,9 @@ sift (suc k) bs t =
     let below = sift k (set bs (suc k) (get_or bs k no_break_time)) t in
     cond (total_le (get_or bs k no_break_time).time t.time) (set bs (suc k) t) below
 
+-- the first `count` places of the array
 abbrev pub break_list : Breaks → List D.Break
-break_list b = map break_of b.list.items
+break_list b = map break_of (take b.count b.list)
 
 -- the times are in order, and none stands before m
 unfoldable pub Rising : ℕ → List D.Break → Type 0
@@ -42,20 +43,27 @@ Rising m (b ∷ bs) = (m ≤ total_key b.time) × Rising (total_key b.time) bs
 
 -- breaks of n coordinates
 pub record Listed (n : ℕ) (b : Breaks) : Type 0 where
-  pub within : (k : ℕ) → k < length b.list.items → (get_or b.list.items k no_break_time).coordinate < n
+  pub long : length b.list ≡ most_coordinates
+  pub few : b.count ≤ most_coordinates
+  pub within : (k : ℕ) → k < b.count → (get_or b.list k no_break_time).coordinate < n
 
 -- breaks in order, with room for one more
 pub record Ordered (b : Breaks) : Type 0 where
-  pub room : length b.list.items < most_coordinates
+  pub long : length b.list ≡ most_coordinates
+  pub room : b.count < most_coordinates
   pub rising : Rising 0 (break_list b)
 
 -- r is b with t in its place
-abbrev pub Inserted : Breaks → BreakTime → Breaks → Type 0
-Inserted b t r = break_list r ≡ D.inserted (break_of t) (break_list b)
+pub record Inserted (b : Breaks) (t : BreakTime) (r : Breaks) : Type 0 where
+  pub long : length r.list ≡ most_coordinates
+  pub count : r.count ≡ b.count + 1
+  pub is : break_list r ≡ D.inserted (break_of t) (break_list b)
 
 -- r is b, and coordinate i with its time t where that is finite
-abbrev pub Kept : Breaks → Float → ℕ → Breaks → Type 0
-Kept b t i r = break_list r ≡ cond (finite t) (D.inserted (record { time = t; coordinate = i }) (break_list b)) (break_list b)
+pub record Kept (b : Breaks) (t : Float) (i : ℕ) (r : Breaks) : Type 0 where
+  pub long : length r.list ≡ most_coordinates
+  pub count : r.count ≤ b.count + 1
+  pub is : break_list r ≡ cond (finite t) (D.inserted (record { time = t; coordinate = i }) (break_list b)) (break_list b)
 
 -- r is all the breaks of n coordinates
 pub record Found (n : ℕ) (v : Vecs) (r : Breaks) : Type 0 where

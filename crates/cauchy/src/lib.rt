@@ -1,7 +1,7 @@
 // `generalized_cauchy`: break times, the projected path, and the Cauchy point on it.
 #![tactic(auto)]
 
-ghost use Rattle.std.specs.Prelude.{◌≡◌, ◌-◌, ◌*◌, ◌≤◌, ◌<◌, ◌&&◌, [], not, cond, length, get_or};
+ghost use Rattle.std.specs.Prelude.{◌≡◌, ◌-◌, ◌*◌, ◌≤◌, ◌<◌, ◌&&◌, not, cond, length, get_or};
 ghost use Rattle.std.specs.List.{suffix_len};
 ghost use Rattle.std.specs.Float.Ieee as Ieee;
 ghost use Rattle.std.specs.Float.Ieee.Scale.{finite};
@@ -11,12 +11,11 @@ ghost use Rattle.definition.specs.Problem.{most_coordinates};
 ghost use Rattle.definition.specs.Geometry.{no_break, stopped, stop_all, passed, stood_at, generalized_cauchy};
 ghost use Rattle.definition.specs.Geometry.{along as along_of, by_slope, still as still_of, segment as segment_of};
 ghost use Rattle.area.specs.Area.{view, words_at, bounds_of, rowwise, first_pair, vector_x, vector_g, vector_velocity, vector_product_z, vector_cauchy};
-ghost use Rattle.compact.specs.State.{Sound, Modelled, compact_of};
+ghost use Rattle.compact.specs.State.{Sound, Prepared, compact_of};
 ghost use Rattle.cauchy.specs.State.{no_break_time, sift, break_list, Listed, Ordered, Inserted, Kept, Found};
 ghost use Rattle.cauchy.specs.State.{coordinate_of, moves_up_of, moves_down_of, velocity_of, break_time_of, velocity_in, point_in, path_of};
 ghost use Rattle.cauchy.specs.State.{travelled_of, Travels, Begins, Points, PathPoint, Segments};
 
-use arrayvec::ArrayVec;
 use std::ops::ControlFlow;
 
 // When a coordinate meets its bound.
@@ -26,10 +25,12 @@ pub struct BreakTime {
     pub coordinate: usize,
 }
 
-// The finite break times, in order.
-#[derive(Drop)]
+// The finite break times, in order, in the first `count` places.
+// Kept: an array with its count. ArrayVec has no Copy, which the public type has had.
+#[derive(Clone, Copy, Drop)]
 pub struct Breaks {
-    pub list: ArrayVec<BreakTime, { problem::MOST_COORDINATES }>,
+    pub list: [BreakTime; problem::MOST_COORDINATES],
+    pub count: usize,
 }
 
 // How far the path is gone: the breaks of all coordinates, the time of the last that is passed, and how many are passed.
@@ -160,12 +161,13 @@ fn break_at(list: &[BreakTime], i: usize) -> BreakTime
 }
 
 impl Breaks {
-    // No break.
+    // A place for each coordinate that there may be, of which none is used.
     fn new() -> Breaks
-        ensures { break_list result ≡ [] }
+        ensures { (length result.list ≡ most_coordinates) × (result.count ≡ 0) }
     {
         Breaks {
-            list: ArrayVec::new(),
+            list: [BreakTime::default(); problem::MOST_COORDINATES],
+            count: 0,
         }
     }
 
@@ -174,9 +176,8 @@ impl Breaks {
         requires { Ordered self.old }
         ensures { Inserted self.old entry self.new }
     {
-        let count = self.list.len();
-        self.list.push(entry);
-        insert_in(self.list.as_mut_slice(), count, entry);
+        insert_in(&mut self.list, self.count, entry);
+        self.count += 1;
     }
 
     // A break time is kept where it is finite.
@@ -324,11 +325,11 @@ impl<'a> Path<'a> {
 
     // The time of the next break: infinity past the last.
     fn next_time(self) -> f64
+        requires { let b = self.breaks.now in (length b.list ≡ most_coordinates) × (b.count ≤ most_coordinates) }
         ensures { result ≡ (get_or (break_list self.entry.breaks.now) self.entry.event no_break).time }
     {
-        let list = self.breaks.list.as_slice();
-        if self.event < list.len() {
-            return break_at(list, self.event).time;
+        if self.event < self.breaks.count {
+            return break_at(&self.breaks.list, self.event).time;
         }
         float::infinity()
     }
@@ -337,11 +338,12 @@ impl<'a> Path<'a> {
     fn stop_all(self, area: &mut [f64], n: usize, time: f64) -> Path<'a>
         requires { (first_pair * n ≤ length area.old) × Listed n self.breaks.now }
         ensures { let v = view area.old n in let b = self.entry.breaks.now in
-            Travels (stop_all (length b.list.items - self.entry.event) (bounds_of v) (v vector_x) (break_list b) time) self.entry v result
+            Travels (stop_all (b.count - self.entry.event) (bounds_of v) (v vector_x) (break_list b) time) self.entry v result
             (view area.new n) }
     {
+        let list = &self.breaks.list[..self.breaks.count];
         let mut reached = self;
-        for entry in self.breaks.list.as_slice().iter().skip(self.event) {
+        for entry in list.iter().skip(self.event) {
             if entry.time != time {
                 return reached;
             }
@@ -408,7 +410,7 @@ impl<'a> Path<'a> {
     // One segment of the path: it ends the path, with the Cauchy point in its vector or without, or leads on.
     fn segment(self, area: &mut [f64], model: &compact::Model) -> ControlFlow<bool, Path<'a>>
         requires { let h = model.now.shape in
-            Sound h (length area.old) × Modelled model.now (view area.old h.n) × Listed h.n self.breaks.now }
+            Sound h (length area.old) × Prepared model.now (view area.old h.n) × Listed h.n self.breaks.now }
         ensures { let h = model.now.shape in
             let v = view area.old h.n in
             let b = self.entry.breaks.now in
@@ -434,7 +436,7 @@ impl<'a> Path<'a> {
 // Kept: a bool. An `Option` would hold the point by value, and what reads it looks in the area.
 pub fn generalized_cauchy(area: &mut [f64], model: &compact::Model) -> bool
     requires { let h = model.now.shape in
-        Sound h (length area.old) × Modelled model.now (view area.old h.n) × (h.n ≤ most_coordinates) }
+        Sound h (length area.old) × Prepared model.now (view area.old h.n) × (h.n ≤ most_coordinates) }
     ensures { let h = model.now.shape in
         let v = view area.old h.n in
         Points (generalized_cauchy h.n (bounds_of v) (compact_of h model.now.theta v) (v vector_x) (v vector_g)) v result (view area.new h.n) }

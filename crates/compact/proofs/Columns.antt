@@ -12,15 +12,15 @@ use lib.ListN.{length}
 use lib.Ieee.{Float, nan}
 use Rattle.definition.specs.Number.{plus, minus, times, neg_zero}
 use Rattle.definition.specs.Vector.{tab, word, fold_to, dot, all_finite, finite_only}
-use Rattle.definition.specs.Solve.{solve}
-use Rattle.definition.specs.Compact.{Compact, pair_of, column_word, column_dot, zero_row, right_side, weights, less_word, product}
+use Rattle.definition.specs.Solve.{Matrix, solve}
+use Rattle.definition.specs.Compact.{Compact, pair_of, column_word, column_dot, zero_row, block, right_side, weights, less_word, product}
 use Rattle.area.specs.Area.{Vecs, upd, copy_of, view, rowwise, first_pair}
 use Rattle.area.proofs.Laws.{length-view, upd_other}
 use Rattle.solve.specs.Factors.{solved_by}
 use Rattle.solve.proofs.Steps.{factors_solve}
 use Rattle.compact.specs.declared.Shape.{Shape}
 use Rattle.compact.specs.declared.Model.{Model}
-use Rattle.compact.specs.State.{column_slot, pairs_of, compact_of, Sound, Slot, Laid, PairsKept, Modelled, Multiplied, less_to}
+use Rattle.compact.specs.State.{column_slot, pairs_of, compact_of, Sound, Slot, Laid, PairsKept, Prepared, Multiplied, less_to}
 use Rattle.area.proofs.Folds.{fold_same}
 use Rattle.compact.proofs.Laws.{tab-get, tab_same, tab-word, pairs_count, upd_same, upd_twice, upd_none, given_is}
 use Rattle.compact.proofs.Models.{compact_laid}
@@ -165,14 +165,19 @@ lessened_done {h} {theta} {z} {p} {k} {o} {a} {b} q w g e r l =
 
 -- ---- products with B
 
--- the weights by the factors
-pub weighed : (w : Model) (v : Vecs) (q : ℕ) (y : List Float) → (w.shape.pairs ≡ 0 → ⊥) → Modelled w v
+-- the weights by the block
+solved_block : (h : Shape) (theta : Float) (v : Vecs) (q : ℕ) (m : Matrix) (y : List Float) → (h.pairs ≡ 0 → ⊥) → m ≡ block h.n (compact_of h theta v)
+    → y ≡ right_side h.n (compact_of h theta v) (v q) → solve (2 * h.pairs) m y ≡ weights h.n (compact_of h theta v) (v q)
+unfolding weights
+solved_block h theta v q m y d e f =
+    rw (pairs_count h v, ne_eqb h.pairs 0 d) (λ i. solve (2 * h.pairs) (rw (pairs_count h v) at e i) (rw (pairs_count h v) at f i))
+
+-- and by its factors
+pub weighed : (w : Model) (v : Vecs) (q : ℕ) (y : List Float) → (w.shape.pairs ≡ 0 → ⊥) → Prepared w v
     → y ≡ right_side w.shape.n (compact_of w.shape w.theta v) (v q)
     → solved_by (2 * w.shape.pairs) w.factors y ≡ weights w.shape.n (compact_of w.shape w.theta v) (v q)
-unfolding weights
 weighed w v q y d e f =
-    rw (pairs_count w.shape v, ne_eqb w.shape.pairs 0 d)
-    (factors_solve y e.factors ∙ (λ i. solve (2 * w.shape.pairs) (rw (pairs_count w.shape v) at e.block i) (rw (pairs_count w.shape v) at f i)))
+    factors_solve y e.factors ∙ solved_block w.shape w.theta v q (block w.shape.n (compact_of w.shape w.theta v)) y d refl f
 
 pub unweighed : (h : Shape) (theta : Float) (v : Vecs) (q : ℕ) → h.pairs ≡ 0 → Some zero_row ≡ weights h.n (compact_of h theta v) (v q)
 unfolding weights

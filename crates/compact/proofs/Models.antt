@@ -1,5 +1,5 @@
 -- What later crates need of a model: it stays while the vectors from the pairs on stay, and its entries. Assumes nothing.
-use mathlib.Core.Path.{◌≡◌, refl, sym, ap, ◌∙◌}
+use mathlib.Core.Path.{◌≡◌, refl, sym, ap, subst, ◌∙◌}
 use mathlib.Core.List.{List, []}
 use Prim.Native.Nat.{ℕ, ◌+◌, ◌*◌, ◌≤◌, ◌<◌}
 use native.Mathlib.Omega.{arith}
@@ -10,9 +10,10 @@ use Rattle.definition.specs.Solve.{Matrix, entry}
 use Rattle.definition.specs.Compact as C
 use Rattle.area.specs.Area.{Vecs, upd, first_pair}
 use Rattle.area.proofs.Laws.{upd_other}
+use Rattle.solve.specs.Factors.{Factored}
 use Rattle.compact.specs.declared.Shape.{Shape}
 use Rattle.compact.specs.declared.Model.{Model}
-use Rattle.compact.specs.State.{pair_slot, column_slot, pair_at, pairs_of, compact_of, Sound, Laid, PairsKept, Modelled}
+use Rattle.compact.specs.State.{pair_slot, column_slot, pair_at, pairs_of, compact_of, Sound, Laid, PairsKept, Assembled, Prepared, Modelled}
 use Rattle.compact.proofs.Laws.{tab_same, pairs_count, padded-get, place_below}
 
 -- every vector from the pairs on is as it was
@@ -42,6 +43,20 @@ modelled_kept {w} {a} b k r = record {
   factors = r.factors;
 }
 
+pub prepared_kept : {w : Model} {a : Vecs} (b : Vecs) → HighKept a b → Prepared w a → Prepared w b
+prepared_kept {w} {a} b k r = record {
+  laid = laid_kept b k r.laid;
+  factors =
+      subst (λ (c : C.Compact). Factored (2 * w.shape.pairs) (C.block w.shape.n c) w.factors) (sym (compact_kept w.shape w.theta a b k)) r.factors;
+}
+
+-- what a model is enough for
+pub assembled : {w : Model} {v : Vecs} → Modelled w v → Assembled w v
+assembled r = record { laid = r.laid; block = r.block }
+
+pub prepared : {w : Model} {v : Vecs} → Modelled w v → Prepared w v
+prepared {w} r = record { laid = r.laid; factors = subst (λ (b : Matrix). Factored (2 * w.shape.pairs) b w.factors) r.block r.factors }
+
 -- the vectors below the columns kept, as where the columns are laid out
 pub compact_laid : {h : Shape} {size : ℕ} (theta : Float) (a b : Vecs) → Sound h size → PairsKept h a b → compact_of h theta b ≡ compact_of h theta a
 unfolding pairs_of
@@ -56,8 +71,8 @@ compact_laid {h} theta a b s k =
 pub compact_upd : (h : Shape) (theta : Float) (a : Vecs) (p : ℕ) (v : List Float) → p < first_pair → compact_of h theta (upd a p v) ≡ compact_of h theta a
 compact_upd h theta a p v l = compact_kept h theta a (upd a p v) (high_upd a p v l)
 
-pub modelled_upd : {w : Model} {a : Vecs} (p : ℕ) (v : List Float) → p < first_pair → Modelled w a → Modelled w (upd a p v)
-modelled_upd {a = a} p v l r = modelled_kept (upd a p v) (high_upd a p v l) r
+pub prepared_upd : {w : Model} {a : Vecs} (p : ℕ) (v : List Float) → p < first_pair → Prepared w a → Prepared w (upd a p v)
+prepared_upd {a = a} p v l r = prepared_kept (upd a p v) (high_upd a p v l) r
 
 -- ---- entries
 
@@ -66,8 +81,8 @@ block_entry_lem n c i j k l =
     ap (λ (r : List Float). word r j) (padded-get C.zero_row (2 * C.count c) (λ (i : ℕ). C.padded zero64 (2 * C.count c) (C.block_entry n c i)) i [] k)
     ∙ padded-get zero64 (2 * C.count c) (C.block_entry n c i) j nan l
 
-pub modelled_entry : {w : Model} {v : Vecs} (i j : ℕ) → Modelled w v → i < 2 * w.shape.pairs → j < 2 * w.shape.pairs
+pub assembled_entry : {w : Model} {v : Vecs} (i j : ℕ) → Assembled w v → i < 2 * w.shape.pairs → j < 2 * w.shape.pairs
     → entry w.block i j ≡ C.block_entry w.shape.n (compact_of w.shape w.theta v) i j
-modelled_entry {w} {v} i j r k l =
+assembled_entry {w} {v} i j r k l =
     ap (λ (b : Matrix). entry b i j) r.block
     ∙ block_entry_lem w.shape.n (compact_of w.shape w.theta v) i j (rw (pairs_count w.shape v) k) (rw (pairs_count w.shape v) l)

@@ -94,6 +94,16 @@ PairsKept h a b = (q : ℕ) → q < first_column h.m → b q ≡ a q
 abbrev pub block_to : Shape → Float → Vecs → ℕ → Matrix
 block_to h theta v k = C.padded C.zero_row k (λ (i : ℕ). C.padded zero64 (2 * h.pairs) (C.block_entry h.n (compact_of h theta v) i))
 
+-- what a reduced matrix is made of: the columns laid out, and the block of the pairs
+pub record Assembled (w : Model) (v : Vecs) : Type 0 where
+  pub laid : Laid w.shape w.theta v
+  pub block : w.block ≡ C.block w.shape.n (compact_of w.shape w.theta v)
+
+-- what products are made with: the columns laid out, and the factors of the pairs' block, whatever the model's own array of it holds
+pub record Prepared (w : Model) (v : Vecs) : Type 0 where
+  pub laid : Laid w.shape w.theta v
+  pub factors : Factored (2 * w.shape.pairs) (C.block w.shape.n (compact_of w.shape w.theta v)) w.factors
+
 -- what a model w says of the vectors: the columns laid out, the block of the pairs, and the factors of the block
 pub record Modelled (w : Model) (v : Vecs) : Type 0 where
   pub laid : Laid w.shape w.theta v

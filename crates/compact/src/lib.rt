@@ -9,7 +9,7 @@ ghost use Rattle.definition.specs.Compact.{curved as curved_of, usable as usable
 ghost use Rattle.definition.specs.Compact.{wrap, padded, block as block_of, right_side, weights as weights_of};
 ghost use Rattle.area.specs.Area.{view, upd, rowwise, first_pair};
 ghost use Rattle.compact.specs.State.{pair_slot, column_slot, Sound, Slot, pairs_of, compact_of, pushed_shape, accepted_of, Pushed};
-ghost use Rattle.compact.specs.State.{block_to, Laid, PairsKept, Modelled, Built, Multiplied, less_to};
+ghost use Rattle.compact.specs.State.{block_to, Laid, PairsKept, Prepared, Built, Multiplied, less_to};
 
 use solve::{Factors, Matrix, Row, SIZE};
 
@@ -296,7 +296,7 @@ impl Model {
 
 // The columns' products with the vector.
 fn right_side(area: &[f64], model: &Model, vector: usize) -> Row
-    requires { Sound model.now.shape (length area.now) × Modelled model.now (view area.now model.now.shape.n) × (vector < first_pair) }
+    requires { let h = model.now.shape in Sound h (length area.now) × Laid h model.now.theta (view area.now h.n) × (vector < first_pair) }
     ensures { let h = model.now.shape in let v = view area.now h.n in result ≡ right_side h.n (compact_of h model.now.theta v) (v vector) }
 {
     let shape = model.shape;
@@ -309,7 +309,7 @@ fn right_side(area: &[f64], model: &Model, vector: usize) -> Row
 
 // The weights of the columns in the product with the vector, where there are any.
 fn weights(area: &[f64], model: &Model, vector: usize) -> Option<Row>
-    requires { Sound model.now.shape (length area.now) × Modelled model.now (view area.now model.now.shape.n) × (vector < first_pair) }
+    requires { Sound model.now.shape (length area.now) × Prepared model.now (view area.now model.now.shape.n) × (vector < first_pair) }
     ensures { let h = model.now.shape in let v = view area.now h.n in result ≡ weights_of h.n (compact_of h model.now.theta v) (v vector) }
 {
     if model.shape.pairs == 0 {
@@ -336,7 +336,7 @@ fn less(area: &mut [f64], n: usize, to: usize, from: usize, factor: f64)
 
 // Vector `to` becomes theta times vector `from`, less each column with its weight.
 fn less_columns(area: &mut [f64], model: &Model, weights: Row, to: usize, from: usize)
-    requires { Sound model.now.shape (length area.old) × Modelled model.now (view area.old model.now.shape.n)
+    requires { Sound model.now.shape (length area.old) × Laid model.now.shape model.now.theta (view area.old model.now.shape.n)
         × (to < first_pair) × (from < first_pair) }
     ensures { let h = model.now.shape in let v = view area.old h.n in
         view area.new h.n ≡ upd v to (tab h.n (less_to (compact_of h model.now.theta v) weights (v from) (2 * h.pairs))) }
@@ -351,7 +351,7 @@ fn less_columns(area: &mut [f64], model: &Model, weights: Row, to: usize, from: 
 // `times`: vector `to` becomes B times vector `from`; false, and `to` is scratch, where there is no such product.
 // Kept: a bool. An `Option` would hold the product by value, and what reads it looks in the area.
 pub fn product(area: &mut [f64], model: &Model, to: usize, from: usize) -> bool
-    requires { Sound model.now.shape (length area.old) × Modelled model.now (view area.old model.now.shape.n)
+    requires { Sound model.now.shape (length area.old) × Prepared model.now (view area.old model.now.shape.n)
         × (to < first_pair) × (from < first_pair) }
     ensures { let h = model.now.shape in
         Multiplied h model.now.theta to from (view area.old h.n) result (view area.new h.n) }

@@ -1,16 +1,16 @@
 -- Laws of `specs/Factors.antt`: the loops of an elimination, whatever the right side, and the solution that follows. Assumes nothing.
 use mathlib.Core.Path.{◌≡◌, refl, sym, ap, ◌∙◌}
-use mathlib.Core.Bool.{Bool, true, false, not, cond, ◌&&◌}
+use mathlib.Core.Bool.{Bool, true, false, not, cond, ◌&&◌, false≢true}
 use mathlib.Core.List.{List, [], ◌∷◌, map}
 use Rattle.std.specs.Prelude.{Option, None, Some}
 use Rattle.std.specs.Bool.{then_some}
 use Rattle.std.specs.List.{fold, zip, list_all, swap}
 use Rattle.std.proofs.lemmas.List.{get_or_default}
 use Rattle.std.proofs.lemmas.List.Folds.{list_all_more}
-use Rattle.std.proofs.Common.{lit<}
 use Prim.Native.Nat.{ℕ, zero, suc, ◌+◌, ◌-◌, ◌≤◌, ◌<◌}
 use native.Mathlib.Numerals.{add-one}
 use native.Mathlib.Omega.{arith}
+use borrow.Author.Count.{below_more}
 use lib.ListN.{length, get_or, set, replicate, take, drop, length-set, length-drop}
 use lib.Seq.{get_or-set_same, get_or-set_other, get_or-drop}
 use lib.Ieee as Ieee
@@ -150,6 +150,7 @@ pub record Columns (n : ℕ) (scale : Float) (a t f : Matrix) (p : List ℕ) (k 
   pub upto : k ≤ n
   pub rows : length f ≡ 32
   pub places : length p ≡ 32
+  pub within : (j : ℕ) → j < k → get_or p j 0 < 32
   pub is : (b : List Float) → Some (system t (forward_to k n f p b)) ≡ fold_to k (column n scale) (Some (system a b))
 
 -- a step that is not yet taken
@@ -163,14 +164,9 @@ forward_kept (suc j) n f p k m q b l =
     let x = forward_kept j n f p k m q b (omega arith) in
     λ i. stepped n j (r i) (s i) (x i)
 
-pub zeros_within : (n j : ℕ) → get_or (replicate n 0) j 0 < 32
-zeros_within zero j = lit< tt
-zeros_within (suc n) zero = lit< tt
-zeros_within (suc n) (suc j) = zeros_within n j
-
 pub columns_none : {n : ℕ} {scale : Float} {a f : Matrix} {p : List ℕ} → length f ≡ 32 → length p ≡ 32 → Columns n scale a a f p 0
 unfolding forward_to fold_to
-columns_none l m = record { upto = omega arith; rows = l; places = m; is = λ b. refl }
+columns_none l m = record { upto = omega arith; rows = l; places = m; within = λ j h. absurd (omega arith); is = λ b. refl }
 
 pub columns_more : {n : ℕ} {scale : Float} {a t f : Matrix} {p : List ℕ} {k : ℕ} {c : Cleared} {u : Matrix}
     → Columns n scale a t f p k → k < n → n ≤ 32 → Clears n scale k t (Some c) u → Columns n scale a u (set f k c.multipliers) (set p k c.row) (k + 1)
@@ -179,6 +175,9 @@ columns_more {n} {scale} {a} {t} {f} {p} {k} {c} {u} r l top e = record {
   upto = omega arith;
   rows = simp length-set r.rows;
   places = simp length-set r.places;
+  within = below_more (λ (j : ℕ). get_or (set p k c.row) j 0 < 32) k
+      (λ j h. rw (get_or-set_other p k j c.row 0 (λ d. omega arith)) (r.within j h))
+      (rw (get_or-set_same p k c.row 0 (omega (arith, r.places))) (let low : c.row < n = e.within in omega arith));
   is = λ b.
       let x = forward_kept k n f p k c.multipliers c.row b (omega arith) in
       let g = get_or-set_same f k c.multipliers [] (omega (arith, r.rows)) in
@@ -193,6 +192,7 @@ pub columns_stopped : {n : ℕ} {scale : Float} {a t f : Matrix} {p : List ℕ} 
     → Columns n scale a t f p k → k < n → Clears n scale k t None u → Triangular n scale a false g
 unfolding triangular fold_to
 columns_stopped {n} {scale} {a} {t} {f} {p} {k} g r l e = record {
+  within = λ d. absurd (false≢true d);
   is = λ b.
       looped_stays {n = n} {step = column n scale} {z = Some (system a b)} {s = None} {i = k + 1} (λ j. refl)
       (record { upto = omega arith; is = rw add-one (e.is (forward_to k n f p b) ∙ ap (column n scale k) (r.is b)) });
@@ -203,12 +203,12 @@ pub columns_done : {n : ℕ} {scale : Float} {a : Matrix} {k : ℕ} (g : Factors
 unfolding triangular
 columns_done {n} {scale} {a} {k} g r l =
     let e : k ≡ n = omega (arith, r.upto) in
-    record { is = λ b. rw e at (r.is b) }
+    record { within = λ d j h. r.within j (omega arith); is = λ b. rw e at (r.is b) }
 
 -- ---- the factors, and the solution by them
 
 pub factors : {n : ℕ} {a : Matrix} {s : Float} (f : Factors) → s ≡ scale_of n a → regular s ≡ true → Triangular n s a f.complete f → Factored n a f
-factors f e h r = record { is = λ b. r.is b ∙ rw (← e, h) }
+factors f e h r = record { within = r.within; is = λ b. r.is b ∙ rw (← e, h) }
 
 pub finite_to : (b : List Float) (n : ℕ) → n ≤ length b → list_all finite (take n b) ≡ all_finite n b
 unfolding fold_to

@@ -1,10 +1,10 @@
 -- The elimination apart from its right side: what is left of the matrix, and the solution that it gives with any right side.
-use Rattle.std.specs.Prelude.{ℕ, ◌<◌, ◌≡◌, Bool, cond, List, Float, IfSome}
+use Rattle.std.specs.Prelude.{ℕ, ◌<◌, ◌≡◌, Bool, true, cond, List, Float, IfSome}
 use Rattle.std.specs.Prelude.{Option, None, Some}
 use Rattle.std.specs.Option.{option_map}
 use Rattle.definition.specs.Vector.{all_finite, ◌and_then◌, finite_only}
 use Rattle.definition.specs.Solve.{Matrix, System, system, scale_of, column, triangular, backward}
-use Rattle.solve.specs.Steps.{stepped, forward_to, regular}
+use Rattle.solve.specs.Steps.{stepped, forward_to, OrderInRange, regular}
 use Rattle.solve.specs.declared.Cleared.{Cleared}
 use Rattle.solve.specs.declared.factors.Factors.{Factors}
 
@@ -23,10 +23,12 @@ taken ok n b f = cond ok (Some (system f.rows (forward_to n n f.multipliers f.or
 
 -- every column is done, where ok says that each has a pivot
 pub record Triangular (n : ℕ) (scale : Float) (a : Matrix) (ok : Bool) (f : Factors) : Type 0 where
+  pub within : ok ≡ true → OrderInRange n f.order
   pub is : (b : List Float) → taken ok n b f ≡ triangular n scale (system a b)
 
 -- a is eliminated, where it can be
 pub record Factored (n : ℕ) (a : Matrix) (f : Factors) : Type 0 where
+  pub within : f.complete ≡ true → OrderInRange n f.order
   pub is : (b : List Float) → taken f.complete n b f ≡ cond (regular (scale_of n a)) (triangular n (scale_of n a) (system a b)) None
 
 -- the solution by the factors

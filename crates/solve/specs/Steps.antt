@@ -20,9 +20,9 @@ stepped n k m p b = cleared_to (n - (k + 1)) k m (swap_words b k p)
 unfoldable pub forward_to : ℕ → ℕ → Matrix → List ℕ → List Float → List Float
 forward_to j n f p b = fold_to j (λ k x. stepped n k (row f k) (get_or p k 0) x) b
 
--- each row exchanged is one of the 32
-abbrev pub OrderInRange : List ℕ → Type 0
-OrderInRange p = (k : ℕ) → get_or p k 0 < 32
+-- each of the first n rows exchanged is one of the 32
+abbrev pub OrderInRange : ℕ → List ℕ → Type 0
+OrderInRange n p = (k : ℕ) → k < n → get_or p k 0 < 32
 
 -- ---- the matrix
 

@@ -1,5 +1,5 @@
 // What the elimination of a matrix leaves for every right side, and the solution by it.
-ghost use Rattle.std.specs.Prelude.{◌≡◌, false, ◌+◌, ◌-◌, ◌≤◌, ◌<◌};
+ghost use Rattle.std.specs.Prelude.{◌≡◌, true, false, ◌+◌, ◌-◌, ◌≤◌, ◌<◌};
 ghost use Rattle.std.specs.List.{list_all};
 ghost use Rattle.std.specs.Float.Ieee.Scale.{finite};
 ghost use Rattle.definition.specs.Number.{times};
@@ -20,7 +20,6 @@ pub struct Factors {
     pub multipliers: Matrix,
     pub order: [usize; SIZE],
     pub complete: bool,
-    pub ghost within: { OrderInRange order },
 }
 
 impl Factors {
@@ -67,7 +66,7 @@ impl Factors {
 
     // The solution of the system whose matrix was factored, with this right side.
     pub fn solve(&self, n: usize, right: Row) -> Option<Row>
-        requires { n ≤ SIZE }
+        requires { (n ≤ SIZE) × (self.now.complete ≡ true → OrderInRange n self.now.order) }
         ensures { result ≡ solved_by n self.now right }
     {
         if !self.complete || !all_finite(&right[..n]) {
@@ -134,7 +133,7 @@ fn clear(x: &mut Row, multipliers: &Row, n: usize, k: usize)
 // The right side, taken through the steps of the elimination.
 // Kept: an index. Step k is of place k, so `multipliers[..n].iter().zip(order).enumerate()` would only name the same three at greater length.
 fn forward(multipliers: &Matrix, order: &[usize; SIZE], right: Row, n: usize) -> Row
-    requires { (n ≤ SIZE) × OrderInRange order.now }
+    requires { (n ≤ SIZE) × OrderInRange n order.now }
     ensures { result ≡ forward_to n n multipliers.now order.now right }
 {
     let mut x = right;

@@ -15,7 +15,7 @@ use Rattle.definition.specs.Geometry.{free_sum}
 use Rattle.area.specs.Area.{Vecs, fold_rows}
 use Rattle.compact.specs.declared.Shape.{Shape}
 use Rattle.compact.specs.declared.Model.{Model}
-use Rattle.compact.specs.State.{column_slot, compact_of, Modelled}
+use Rattle.compact.specs.State.{column_slot, compact_of, Assembled}
 use Rattle.area.proofs.Folds.{fold_same}
 use Rattle.compact.proofs.Laws.{tab_same, padded-get, pairs_count}
 use Rattle.subspace.specs.State.{free_in, columns_in, grid, row_each, each, product_to, four_to, add_rows, Held, add_free, reduced_by, free_sum_at, reduced_at}
@@ -188,7 +188,7 @@ grid_zeros size h =
     ∙ tab_same_zero size 32 zero_row h
 
 -- and the reduced matrix from them
-pub reduced_are : {m : Model} {v : Vecs} (a : Matrix) {b : Matrix} → Modelled m v
+pub reduced_are : {m : Model} {v : Vecs} (a : Matrix) {b : Matrix} → Assembled m v
     → a ≡ grid (2 * m.shape.pairs) (λ i j. free_sum_at m.shape.n v (column_slot m.shape i) (column_slot m.shape j))
     → b ≡ each (2 * m.shape.pairs) (reduced_by m.theta m.block) a
     → b ≡ padded_rows (compact_of m.shape m.theta v) (reduced_at m.shape m.theta v)

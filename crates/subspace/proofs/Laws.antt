@@ -18,11 +18,11 @@ use Rattle.area.proofs.Folds.{fold_same, range_more, folded}
 use Rattle.area.proofs.Laws.{upd_other, word-view}
 use Rattle.compact.specs.declared.Shape.{Shape}
 use Rattle.compact.specs.declared.Model.{Model}
-use Rattle.compact.specs.State.{column_slot, compact_of, Laid, Modelled}
+use Rattle.compact.specs.State.{column_slot, compact_of, Laid, Assembled}
 use Rattle.compact.proofs.Laws.{tab-get, tab_same, pairs_count}
 use Rattle.compact.proofs.Columns.{laid_word}
 use Rattle.compact.proofs.Laws.{upd_twice}
-use Rattle.compact.proofs.Models.{modelled_entry}
+use Rattle.compact.proofs.Models.{assembled_entry}
 use Rattle.subspace.specs.declared.Coordinate.{Coordinate}
 use Rattle.subspace.specs.State.{coordinate_of, free_of, free_in, free_term, any_free_at, free_sum_at, reduced_at, corrections_at}
 
@@ -76,7 +76,7 @@ free_same n v f g e =
     let term : ℕ → Float → Float → Float = λ k x s. cond (free (bounds_of v) (v vector_cauchy) k) (plus s x) s in
     fold_same n (λ k. term k (f k)) (λ k. term k (g k)) neg_zero (λ k s l t. term k (e k l t) s)
 
-pub reduced_is : {m : Model} {v : Vecs} (i j : ℕ) (s : Float) → Modelled m v → i < 2 * m.shape.pairs → j < 2 * m.shape.pairs
+pub reduced_is : {m : Model} {v : Vecs} (i j : ℕ) (s : Float) → Assembled m v → i < 2 * m.shape.pairs → j < 2 * m.shape.pairs
     → s ≡ free_sum_at m.shape.n v (column_slot m.shape i) (column_slot m.shape j)
     → minus (entry m.block i j) (over s m.theta) ≡ reduced_at m.shape m.theta v i j
 reduced_is {m} {v} i j s r k l e =
@@ -84,7 +84,7 @@ reduced_is {m} {v} i j s r k l e =
     let theta = m.theta in
     let f : s ≡ free_sum h.n (bounds_of v) (v vector_cauchy) (λ k. times (column_word (compact_of h theta v) i k) (column_word (compact_of h theta v) j k)) =
     e ∙ free_same h.n v _ _ (λ d n t. times (laid_word r.laid i d k n t) (laid_word r.laid j d l n t)) in
-    λ t. minus (modelled_entry i j r k l t) (over (f t) theta)
+    λ t. minus (assembled_entry i j r k l t) (over (f t) theta)
 
 pub right_is : {h : Shape} {theta : Float} {v : Vecs} (i q : ℕ) → Laid h theta v → i < 2 * h.pairs → q ≡ column_slot h i
     → free_sum_at h.n v q vector_product_d

@@ -7,7 +7,7 @@ ghost use Rattle.definition.specs.Number.{plus, times, zero64, neg_zero};
 ghost use Rattle.definition.specs.Problem.{most_coordinates};
 ghost use Rattle.definition.specs.Compact.{padded_rows};
 ghost use Rattle.area.specs.Area.{view, upd, words_at, rowwise, first_pair, vector_target, vector_product_d, vector_product_z, vector_step, vector_g};
-ghost use Rattle.compact.specs.State.{compact_of, column_slot, Sound};
+ghost use Rattle.compact.specs.State.{compact_of, column_slot, Sound, Laid, Assembled, Prepared};
 ghost use Rattle.subspace.specs.State.{Ready, coordinate_of, free_of, shortened_of, shared_of, free_step_of, moved_of};
 ghost use Rattle.subspace.specs.State.{columns_in, grid, row_each, each, CallableWithin, Computes, product_to, four_to, add_rows, Held, add_free};
 ghost use Rattle.subspace.specs.State.{difference_array, direction_array, directed, Makes, Minimizes};
@@ -126,7 +126,7 @@ fn add_gradient(area: &mut [f64], n: usize)
 // The residual in its vector; false where there is no product with the displacement.
 // Kept: a bool. An `Option` would hold the residual by value, and what reads it looks in the area.
 fn residual(area: &mut [f64], model: &compact::Model) -> bool
-    requires { Ready model.now area.old }
+    requires { let h = model.now.shape in Sound h (length area.old) × Prepared model.now (view area.old h.n) }
     ensures { let h = model.now.shape in
         let v = view area.old h.n in
         Makes vector_product_d (residual_at h model.now.theta v) v result (view area.new h.n) }
@@ -258,7 +258,7 @@ fn sums(area: &[f64], shape: compact::Shape) -> Matrix
 
 // The reduced matrix, 2 rows and columns for each pair: the block, less the sums by theta.
 fn reduced(area: &[f64], model: &compact::Model) -> Matrix
-    requires { Ready model.now area.now }
+    requires { let h = model.now.shape in Sound h (length area.now) × Assembled model.now (view area.now h.n) }
     ensures { let h = model.now.shape in
         let v = view area.now h.n in
         result ≡ padded_rows (compact_of h model.now.theta v) (reduced_at h model.now.theta v) }
@@ -274,7 +274,7 @@ fn reduced(area: &[f64], model: &compact::Model) -> Matrix
 
 // The columns' products with the residual over the free coordinates.
 fn reduced_right(area: &[f64], model: &compact::Model) -> Row
-    requires { Ready model.now area.now }
+    requires { let h = model.now.shape in Sound h (length area.now) × Laid h model.now.theta (view area.now h.n) }
     ensures { let h = model.now.shape in result ≡ right_at h model.now.theta (view area.now h.n) }
 {
     let shape = model.shape;
@@ -292,7 +292,7 @@ fn reduced_right(area: &[f64], model: &compact::Model) -> Row
 
 // The weights of the columns that solve the reduced system, where there are any.
 fn weights(area: &[f64], model: &compact::Model) -> Option<Row>
-    requires { Ready model.now area.now }
+    requires { let h = model.now.shape in Sound h (length area.now) × Assembled model.now (view area.now h.n) }
     ensures { let h = model.now.shape in result ≡ weights_at h model.now.theta (view area.now h.n) }
 {
     solve::solve(
@@ -319,7 +319,7 @@ fn add_column(area: &mut [f64], n: usize, from: usize, factor: f64)
 
 // The step becomes what the columns with the weights add to the residual.
 fn corrections(area: &mut [f64], model: &compact::Model, weights: Row)
-    requires { Ready model.now area.old }
+    requires { let h = model.now.shape in Sound h (length area.old) × Laid h model.now.theta (view area.old h.n) }
     ensures { let h = model.now.shape in
         let v = view area.old h.n in
         view area.new h.n ≡ upd v vector_step (corrections_at h model.now.theta v weights) }
@@ -334,7 +334,7 @@ fn corrections(area: &mut [f64], model: &compact::Model, weights: Row)
 // The steps, by the reduced system's weights where there are pairs.
 // Kept: a bool. An `Option` would hold the steps by value, and what reads them looks in the area.
 fn steps(area: &mut [f64], model: &compact::Model) -> bool
-    requires { Ready model.now area.old }
+    requires { let h = model.now.shape in Sound h (length area.old) × Assembled model.now (view area.old h.n) }
     ensures { let h = model.now.shape in
         let v = view area.old h.n in
         Makes vector_step (steps_at h model.now.theta v) v result (view area.new h.n) }

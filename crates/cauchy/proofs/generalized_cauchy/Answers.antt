@@ -3,7 +3,7 @@ use mathlib.Core.Path.{◌≡◌, ◌∙◌}
 use Prim.Native.Nat.{suc, ◌+◌, ◌-◌}
 use native.Mathlib.Omega.{arith}
 use Rattle.area.proofs.Laws.{scratch_trans}
-use Rattle.compact.proofs.Models.{modelled_kept}
+use Rattle.compact.proofs.Models.{prepared_kept}
 use Rattle.cauchy.proofs.Segments.{walking_more, walking_ends, walking_stops, walks}
 use Rattle.cauchy.proofs.generalized_cauchy.Goals as goal
 
@@ -12,7 +12,7 @@ segment-requires c =
     let l = c.loop.invariant in
     let start = c.begin-path.ensures in (
       rw (l.long ∙ c.begin-path.auto.area) c.requires.0,
-      modelled_kept _ (scratch_trans start.kept l.way.kept).high c.requires.1,
+      prepared_kept _ (scratch_trans start.kept l.way.kept).high c.requires.1,
       rw (l.way.breaks, start.breaks) c.find_breaks-breaks.ensures.listed,
     )
 

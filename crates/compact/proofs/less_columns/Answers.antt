@@ -33,4 +33,4 @@ loop-column-preserved c =
 pub returns : goal.returns
 returns c =
     let count = length-take-le (2 * c.args.model.now.shape.pairs) c.args.weights (omega arith) in
-    lessened_done _ c.requires.1.laid c.requires.2 c.scale.ensures c.loop-column.invariant.0 (omega (arith, count))
+    lessened_done _ c.requires.1 c.requires.2 c.scale.ensures c.loop-column.invariant.0 (omega (arith, count))

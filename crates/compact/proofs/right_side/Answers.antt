@@ -22,7 +22,7 @@ loop-column-preserved c =
     let a = c.args in
     let below = filling_below c.loop-column.invariant c.loop-column.auto.place-items c.loop-column-test.true in
     filling_more c.loop-column.invariant c.loop-column.auto.place-items c.loop-column-test.true
-    (c.dot.ensures ∙ laid_dot c.requires.1.laid _ _ (view a.area.now a.model.now.shape.n a.vector) below c.column_slot.ensures)
+    (c.dot.ensures ∙ laid_dot c.requires.1 _ _ (view a.area.now a.model.now.shape.n a.vector) below c.column_slot.ensures)
 
 pub returns : goal.returns
 unfolding of_bits

@@ -2,9 +2,12 @@
 use mathlib.Core.Path.{◌≡◌}
 use borrow.Author.Rules.{rules}
 use lib.ListN.{length}
-use Rattle.compact.proofs.Models.{modelled_kept}
+use Rattle.compact.proofs.Models.{modelled_kept, prepared}
 use Rattle.iteration.proofs.Laws.{no_point, from_point}
 use Rattle.iteration.proofs.model.Goals as goal
+
+pub generalized_cauchy-requires : goal.generalized_cauchy-requires
+generalized_cauchy-requires c = (search rules, prepared c.build.ensures.is, search rules)
 
 pub primal_minimize-requires : goal.primal_minimize-requires
 primal_minimize-requires c =

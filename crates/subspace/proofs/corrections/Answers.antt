@@ -24,4 +24,4 @@ loop-column-preserved c =
 
 pub returns : goal.returns
 returns c =
-    added_done c.requires.1.laid (rw neg_zero_is at c.fill.ensures) c.loop-column.invariant.0 (omega arith)
+    added_done c.requires.1 (rw neg_zero_is at c.fill.ensures) c.loop-column.invariant.0 (omega arith)

@@ -20,7 +20,7 @@ free_sum-requires c =
 pub loop-i-preserved : goal.loop-i-preserved
 loop-i-preserved c =
     filled_more c.loop-i.invariant (omega arith)
-    (c.free_sum.ensures ∙ right_is _ _ c.requires.1.laid (omega arith) c.column_slot.ensures)
+    (c.free_sum.ensures ∙ right_is _ _ c.requires.1 (omega arith) c.column_slot.ensures)
 
 pub returns : goal.returns
 unfolding of_bits padded

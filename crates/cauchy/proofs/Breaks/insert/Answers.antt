@@ -3,4 +3,4 @@ use Rattle.cauchy.proofs.Order.{inserts}
 use Rattle.cauchy.proofs.Breaks.insert.Goals as goal
 
 pub returns : goal.returns
-returns c = inserts c.args.entry c.requires c.len-count.ensures.value c.push.ensures.items c.as_mut_slice.ensures.value c.insert_in.ensures
+returns c = inserts c.requires c.insert_in.ensures

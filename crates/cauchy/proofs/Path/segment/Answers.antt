@@ -3,7 +3,7 @@ use mathlib.Core.Bool.{not}
 use mathlib.Core.Path.{ap}
 use native.Mathlib.Omega.{arith}
 use Rattle.area.specs.Area.{vector_product_d}
-use Rattle.compact.proofs.Models.{modelled_kept}
+use Rattle.compact.proofs.Models.{prepared_kept}
 use Rattle.cauchy.proofs.Segments.{product_kept, segment_ends, segment_fails₁, segment_fails₂, segment_goes}
 use Rattle.cauchy.proofs.Path.segment.Goals as goal
 
@@ -22,7 +22,7 @@ returns-then-not-product c =
 pub product-requires-2 : goal.product-requires-2
 product-requires-2 c = (
   rw c.product.auto.area c.requires.0,
-  modelled_kept _ (product_kept vector_product_d c.product.ensures (omega arith) (omega arith)).high c.requires.1,
+  prepared_kept _ (product_kept vector_product_d c.product.ensures (omega arith) (omega arith)).high c.requires.1,
   omega arith,
   omega arith,
 )

@@ -12,7 +12,7 @@ pub returns-then-entry-time : goal.returns-then-entry-time
 returns-then-entry-time c =
     let s = c.args.self in
     let l = c.loop-entry in
-    let left = breaks_behind s.event (YieldsList-from_slice _ (c.iter.ensures.rest ∙ c.as_slice.ensures.value)) c.skip-entry-items.ensures.source
+    let left = breaks_behind s.event (YieldsList-from_slice _ c.iter.ensures.rest) c.skip-entry-items.ensures.source
     c.skip-entry-items.ensures.count c.into_iter-entry-iterator.ensures.into_iter_gives in
     let at = entry_is s.breaks.now s.event l.reached l.invariant.event
     (YieldsList-turn left l.yielded _ l.yielded_by _ _ _ c.in-Some.is c.next.ensures.steps) in
@@ -22,7 +22,7 @@ pub loop-entry-preserved : goal.loop-entry-preserved
 loop-entry-preserved c =
     let s = c.args.self in
     let l = c.loop-entry in
-    let left = breaks_behind s.event (YieldsList-from_slice _ (c.iter.ensures.rest ∙ c.as_slice.ensures.value)) c.skip-entry-items.ensures.source
+    let left = breaks_behind s.event (YieldsList-from_slice _ c.iter.ensures.rest) c.skip-entry-items.ensures.source
     c.skip-entry-items.ensures.count c.into_iter-entry-iterator.ensures.into_iter_gives in
     let at = entry_is s.breaks.now s.event l.reached l.invariant.event
     (YieldsList-turn left l.yielded _ l.yielded_by _ _ _ c.in-Some.is c.next.ensures.steps) in
@@ -36,7 +36,7 @@ pub returns : goal.returns
 returns c =
     let s = c.args.self in
     let l = c.loop-entry in
-    let left = breaks_behind s.event (YieldsList-from_slice _ (c.iter.ensures.rest ∙ c.as_slice.ensures.value)) c.skip-entry-items.ensures.source
+    let left = breaks_behind s.event (YieldsList-from_slice _ c.iter.ensures.rest) c.skip-entry-items.ensures.source
     c.skip-entry-items.ensures.count c.into_iter-entry-iterator.ensures.into_iter_gives in
     let all = YieldsList-end left l.yielded _ l.yielded_by _ _ c.in-None.is c.next.ensures.steps in
-    stopping_past l.invariant.way (none_left s.breaks.now s.event l.reached l.invariant.event all.1)
+    stopping_past l.invariant.way (none_left s.breaks.now s.event l.reached c.requires.1 l.invariant.event all.1)

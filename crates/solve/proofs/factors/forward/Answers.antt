@@ -20,7 +20,7 @@ loop-k-preserved c =
     looped_more c.loop-k.invariant (omega arith)
     (c.clear.ensures
     ∙ ap (cleared_to (a.n - (k + 1)) k (row a.multipliers.now k))
-    (c.swap.ensures.after ∙ words_swapped c.loop-k.x k p (omega arith) (omega (arith, c.requires.1 k))))
+    (c.swap.ensures.after ∙ words_swapped c.loop-k.x k p (omega arith) (omega (arith, c.requires.1 k (omega arith)))))
 
 pub returns : goal.returns
 unfolding forward_to
