@@ -1,17 +1,23 @@
 -- Laws of writing: the setup's words by number, words written one behind the other with their sums, and the trailer. Assumes nothing.
 use Rattle.std.proofs.Common.{◌≡◌, ℕ, zero, suc, ◌+◌, ◌-◌, ◌*◌, ◌<◌, ◌≤◌, Bool, true, false, cond, List, [], ◌∷◌, ◌++◌, map, length, get_or, take, drop, sym}
 use Rattle.std.proofs.Common.{refl, ap, ◌∙◌, ap₂, append_assoc, append-nil, add-one, arith, length-append, length-take-le, take-suc}
+use Rattle.std.specs.Prelude.{Option, None, Some}
 use Rattle.std.proofs.Common.{get_or-append-add}
 use lib.ListN.{length-map, get_or-append}
 use lib.Ieee.{Float}
 use Rattle.definition.specs.Number.{to_word}
+use Rattle.definition.specs.Problem.{Setup, or_else, most_pairs, validate}
+use Rattle.definition.specs.Machine.{Reply}
+use Rattle.definition.specs.Log.{log_words}
+use Rattle.definition.specs.Book.{book}
 use Rattle.definition.specs.Record as R
-use Rattle.definition.specs.Record.{box_flag, bound_words, setup_words, sums_from, sums, bytes_of, bytes, added, trailer}
+use Rattle.definition.specs.Record.{box_flag, bound_words, setup_words, sums_from, sums, bytes_of, bytes, added, trailer, record_words, record_bytes}
+use Rattle.definition.proofs.Accepted.{accepted_in_limits}
 use Rattle.definition.proofs.Bytes.{bytes-length, bytes-append}
 use Rattle.problem.specs.declared.Options.{Options}
 use Rattle.problem.specs.Setups as P
 use Rattle.record.specs.declared.Sums.{Sums}
-use Rattle.record.specs.Records.{sums_of, setup_size, leading_words, Savable, saved_words, Summed, trailer_of, overwritten}
+use Rattle.record.specs.Records.{sums_of, setup_size, leading_words, Savable, saved_words, saved_record, Summed, trailer_of, overwritten}
 use Rattle.record.proofs.Words.{summing_none, sums_one, put, put-append, put-length, bytes_count}
 
 -- ---- the setup's words by number
@@ -91,6 +97,21 @@ module _ (o : Options) (x0 l u : List Float) where
 
   pub saved_size : Savable o x0 l u → (log : List ℕ) → length (saved_words (P.setup_in o x0 l u) log) ≡ setup_size o.bounded (length x0) + length log
   saved_size s log = length-append (setup_words (P.setup_in o x0 l u)) log ∙ ap (λ (k : ℕ). k + length log) (setup_size_lem s)
+
+-- every accepted setup can be saved
+pub accepted_savable : (o : Options) (x0 l u : List Float) → validate (P.setup_in o x0 l u) ≡ None → Savable o x0 l u
+accepted_savable o x0 l u e =
+    let k = accepted_in_limits (P.setup_in o x0 l u) e in
+    record {
+      most = k.coordinates.1;
+      pairs = given_small o.maxcor k.pairs.1;
+      lower = λ b. rw b at k.lower;
+      upper = λ b. rw b at k.upper;
+    }
+  where
+    given_small : (m : Option ℕ) → or_else m 10 ≤ most_pairs → or_else m 0 ≤ 255
+    given_small None h = omega arith
+    given_small (Some m) h = omega arith
 
 -- ---- words one behind the other, with their sums
 
@@ -208,3 +229,8 @@ record_put ws out m r t count h e room f =
     ∙ put-append out m 0 (bytes ws) (bytes (trailer ws)) (omega (arith, size, four)) first
     ∙ ap (λ (k : ℕ). bytes ws ++ bytes (trailer ws) ++ drop k out) whole
     ∙ ap (λ (b : List ℕ). overwritten b out) (sym (bytes-append ws (trailer ws)))
+
+-- with the log's words of replies it is their record
+pub saved_is : (s : Setup) (rs : List Reply) → bytes (saved_record s (log_words rs)) ≡ record_bytes (book s rs)
+unfolding record_bytes record_words
+saved_is s rs = refl
