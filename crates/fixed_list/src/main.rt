@@ -178,12 +178,12 @@ struct Question<'a> {
 }
 
 impl<'a> Question<'a> {
-    // The first question.
-    fn first(words: &'a [Word], n: usize) -> Self {
+    // The first question. Where it says that its point is that of the one before it, which there is not, its point is the report's words.
+    fn first(answers: Answers<'a>, n: usize) -> Self {
         let before = Question {
             kind: 0,
-            point: &[],
-            rest: words,
+            point: answers.report,
+            rest: answers.questions,
         };
         before.following(n)
     }
@@ -208,8 +208,8 @@ impl<'a> Question<'a> {
 }
 
 // Question k, from 0 the first.
-fn question_at<'a>(words: &'a [Word], n: usize, k: usize) -> Question<'a> {
-    let mut question = Question::first(words, n);
+fn question_at<'a>(answers: Answers<'a>, n: usize, k: usize) -> Question<'a> {
+    let mut question = Question::first(answers, n);
     for _ in 0..k {
         question = question.following(n);
     }
@@ -227,7 +227,7 @@ fn is_asked(answers: Answers, fit: Fit, area: &[f64], replies: usize) -> bool {
         Err(_) => false,
         Ok(None) => answers.count == replies,
         Ok(Some(kind)) => {
-            let question = question_at(answers.questions, n, replies);
+            let question = question_at(answers, n, replies);
             replies < answers.count
                 && question.kind == kind.number() as u64
                 && cases::are_floats(question.point, n, &point)
