@@ -49,7 +49,7 @@
  * Threads: there is no global state, no allocation and no lock. Calls may run at the same time on any threads,
  * also on the same record, as long as each has its own `out`.
  *
- * Stack: 132,600 bytes were the most that a call used (x86-64, glibc), in 9,362 calls each on a thread whose stack
+ * Stack: 132,536 bytes were the most that a call used (x86-64, glibc), in 9,362 calls each on a thread whose stack
  * had been filled with a pattern: two fits of 64 coordinates and 16 pairs with records that grew to 65,152 and
  * 65,536 bytes, and 5,000 generated records. No call is recursive and no frame depends on the input. A thread with
  * 256 KiB of stack is ample. `oracle/stack` measures it again.
