@@ -1,16 +1,20 @@
 -- What later crates need of a model: it stays while the vectors from the pairs on stay, and its entries. Assumes nothing.
 use mathlib.Core.Path.{◌≡◌, refl, sym, ap, subst, ◌∙◌}
+use mathlib.Core.Bool.{cond}
 use mathlib.Core.List.{List, []}
+use Rattle.std.specs.Prelude.{Option, None}
 use Prim.Native.Nat.{ℕ, ◌+◌, ◌*◌, ◌≤◌, ◌<◌}
 use native.Mathlib.Omega.{arith}
 use lib.Ieee.{Float, nan}
 use Rattle.definition.specs.Number.{zero64}
 use Rattle.definition.specs.Vector.{tab, word}
-use Rattle.definition.specs.Solve.{Matrix, entry}
+use Rattle.definition.specs.Solve.{Matrix, System, system, entry, scale_of, triangular}
 use Rattle.definition.specs.Compact as C
 use Rattle.area.specs.Area.{Vecs, upd, first_pair}
 use Rattle.area.proofs.Laws.{upd_other}
-use Rattle.solve.specs.Factors.{Factored}
+use Rattle.solve.specs.Steps.{regular}
+use Rattle.solve.specs.Factors.{taken, Factored}
+use Rattle.solve.proofs.Range.{factored_of}
 use Rattle.compact.specs.declared.Shape.{Shape}
 use Rattle.compact.specs.declared.Model.{Model}
 use Rattle.compact.specs.State.{pair_slot, column_slot, pair_at, pairs_of, compact_of, Sound, Laid, PairsKept, Assembled, Prepared, Modelled}
@@ -50,6 +54,17 @@ prepared_kept {w} {a} b k r = record {
       subst (λ (c : C.Compact). Factored (2 * w.shape.pairs) (C.block w.shape.n c) w.factors) (sym (compact_kept w.shape w.theta a b k)) r.factors;
 }
 
+-- the elimination of a by its first n rows and columns, where its scale is regular
+abbrev eliminated_by : ℕ → Matrix → List Float → Option System
+eliminated_by n a b = cond (regular (scale_of n a)) (triangular n (scale_of n a) (system a b)) None
+
+-- the columns, the block, and what its factors make of every right side are the whole of it: the order is in range by that
+pub modelled_of : {w : Model} {v : Vecs} {size : ℕ} → Sound w.shape size → Laid w.shape w.theta v
+    → w.block ≡ C.block w.shape.n (compact_of w.shape w.theta v)
+    → ((b : List Float) → taken w.factors.complete (2 * w.shape.pairs) b w.factors ≡ eliminated_by (2 * w.shape.pairs) w.block b)
+    → Modelled w v
+modelled_of s laid block is = record { laid = laid; block = block; factors = factored_of (omega (arith, s.few, s.most)) is }
+
 -- what a model is enough for
 pub assembled : {w : Model} {v : Vecs} → Modelled w v → Assembled w v
 assembled r = record { laid = r.laid; block = r.block }
@@ -71,6 +86,9 @@ compact_laid {h} theta a b s k =
 pub compact_upd : (h : Shape) (theta : Float) (a : Vecs) (p : ℕ) (v : List Float) → p < first_pair → compact_of h theta (upd a p v) ≡ compact_of h theta a
 compact_upd h theta a p v l = compact_kept h theta a (upd a p v) (high_upd a p v l)
 
+pub modelled_upd : {w : Model} {a : Vecs} (p : ℕ) (v : List Float) → p < first_pair → Modelled w a → Modelled w (upd a p v)
+modelled_upd {a = a} p v l r = modelled_kept (upd a p v) (high_upd a p v l) r
+
 pub prepared_upd : {w : Model} {a : Vecs} (p : ℕ) (v : List Float) → p < first_pair → Prepared w a → Prepared w (upd a p v)
 prepared_upd {a = a} p v l r = prepared_kept (upd a p v) (high_upd a p v l) r
 
@@ -86,3 +104,7 @@ pub assembled_entry : {w : Model} {v : Vecs} (i j : ℕ) → Assembled w v → i
 assembled_entry {w} {v} i j r k l =
     ap (λ (b : Matrix). entry b i j) r.block
     ∙ block_entry_lem w.shape.n (compact_of w.shape w.theta v) i j (rw (pairs_count w.shape v) k) (rw (pairs_count w.shape v) l)
+
+pub modelled_entry : {w : Model} {v : Vecs} (i j : ℕ) → Modelled w v → i < 2 * w.shape.pairs → j < 2 * w.shape.pairs
+    → entry w.block i j ≡ C.block_entry w.shape.n (compact_of w.shape w.theta v) i j
+modelled_entry i j r = assembled_entry i j (assembled r)

@@ -8,6 +8,7 @@ ghost use Rattle.definition.specs.Problem.{most_pairs};
 ghost use Rattle.definition.specs.Compact.{curved as curved_of, usable as usable_of, pair_of, column_word, diagonal_entry, lower_entry, block_entry};
 ghost use Rattle.definition.specs.Compact.{wrap, padded, block as block_of, right_side, weights as weights_of};
 ghost use Rattle.area.specs.Area.{view, upd, rowwise, first_pair};
+ghost use Rattle.solve.specs.Steps.{OrderInRange};
 ghost use Rattle.compact.specs.State.{pair_slot, column_slot, Sound, Slot, pairs_of, compact_of, pushed_shape, accepted_of, Pushed};
 ghost use Rattle.compact.specs.State.{block_to, Laid, PairsKept, Prepared, Built, Multiplied, less_to};
 
@@ -158,7 +159,7 @@ pub struct Model {
 impl Model {
     // A model that is not built.
     pub fn new(shape: Shape, theta: f64) -> Self
-        ensures { (result.shape ≡ shape) × (result.theta ≡ theta) }
+        ensures { (result.shape ≡ shape) × (result.theta ≡ theta) × OrderInRange SIZE result.factors.order }
     {
         let factors = Factors::none();
         Model {
@@ -243,7 +244,7 @@ impl Model {
     fn build_block(&mut self, area: &[f64])
         requires { Sound self.old.shape (length area.now) }
         ensures { let h = self.old.shape in (self.new.shape ≡ h) × (self.new.theta ≡ self.old.theta)
-            × (self.new.block ≡ block_of h.n (compact_of h self.old.theta (view area.now h.n))) }
+            × (self.new.block ≡ block_of h.n (compact_of h self.old.theta (view area.now h.n))) × (self.new.factors ≡ self.old.factors) }
     {
         self.block = [[0.0; SIZE]; SIZE];
         for i in 0..2 * self.shape.pairs {
@@ -284,7 +285,8 @@ impl Model {
     // Kept: in place. A model by value, with an Option of its factors, took 5.7 microseconds where this one takes 2.5 (3 coordinates, 5 pairs).
     pub fn build(&mut self, area: &mut [f64])
         requires { Sound self.old.shape (length area.old) }
-        ensures { Built self.old.shape self.old.theta area.old self.new area.new }
+        ensures { Built self.old.shape self.old.theta area.old self.new area.new
+            × (OrderInRange SIZE self.old.factors.order → OrderInRange SIZE self.new.factors.order) }
     {
         self.lay_columns(area);
         self.build_block(area);
@@ -316,7 +318,7 @@ fn weights(area: &[f64], model: &Model, vector: usize) -> Option<Row>
         return Some([0.0; SIZE]);
     }
     let right = right_side(area, model, vector);
-    model.factors.solve(2 * model.shape.pairs, right)
+    model.factors.solve_in_range(2 * model.shape.pairs, right)
 }
 
 // Vector `to` becomes itself less the factor times vector `from`.

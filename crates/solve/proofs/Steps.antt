@@ -7,6 +7,7 @@ use Rattle.std.specs.Bool.{then_some}
 use Rattle.std.specs.List.{fold, zip, list_all, swap}
 use Rattle.std.proofs.lemmas.List.{get_or_default}
 use Rattle.std.proofs.lemmas.List.Folds.{list_all_more}
+use Rattle.std.proofs.Common.{lit<}
 use Prim.Native.Nat.{ℕ, zero, suc, ◌+◌, ◌-◌, ◌≤◌, ◌<◌}
 use native.Mathlib.Numerals.{add-one}
 use native.Mathlib.Omega.{arith}
@@ -163,6 +164,11 @@ forward_kept (suc j) n f p k m q b l =
     let s = get_or-set_other p k j q 0 (λ e. omega arith) in
     let x = forward_kept j n f p k m q b (omega arith) in
     λ i. stepped n j (r i) (s i) (x i)
+
+pub zeros_within : (n j : ℕ) → get_or (replicate n 0) j 0 < 32
+zeros_within zero j = lit< tt
+zeros_within (suc n) zero = lit< tt
+zeros_within (suc n) (suc j) = zeros_within n j
 
 pub columns_none : {n : ℕ} {scale : Float} {a f : Matrix} {p : List ℕ} → length f ≡ 32 → length p ≡ 32 → Columns n scale a a f p 0
 unfolding forward_to fold_to

@@ -1,5 +1,5 @@
 // What the elimination of a matrix leaves for every right side, and the solution by it.
-ghost use Rattle.std.specs.Prelude.{◌≡◌, true, false, ◌+◌, ◌-◌, ◌≤◌, ◌<◌};
+ghost use Rattle.std.specs.Prelude.{◌≡◌, true, false, ltb, ◌+◌, ◌-◌, ◌≤◌, ◌<◌};
 ghost use Rattle.std.specs.List.{list_all};
 ghost use Rattle.std.specs.Float.Ieee.Scale.{finite};
 ghost use Rattle.definition.specs.Number.{times};
@@ -27,7 +27,7 @@ impl Factors {
 
     // The factors of no matrix.
     pub fn none() -> Self
-        ensures { result.complete ≡ false }
+        ensures { (result.complete ≡ false) × OrderInRange SIZE result.order }
     {
         Factors {
             rows: [[0.0; SIZE]; SIZE],
@@ -41,7 +41,7 @@ impl Factors {
     // Kept: an index. Column k is cleared over all rows, and what that leaves goes to place k of two arrays.
     fn triangular(&mut self, n: usize, scale: f64) -> bool
         requires { n ≤ SIZE }
-        ensures { Triangular n scale self.old.rows result self.new }
+        ensures { Triangular n scale self.old.rows result self.new × (OrderInRange SIZE self.old.order → OrderInRange SIZE self.new.order) }
     {
         for k in 0..n {
             let Some(cleared) = column(&mut self.rows, n, scale, k) else {
@@ -57,15 +57,26 @@ impl Factors {
     // The elimination of the first n rows and columns, once for every right side.
     pub fn factor(&mut self, n: usize, matrix: Matrix)
         requires { n ≤ SIZE }
-        ensures { Factored n matrix self.new }
+        ensures { Factored n matrix self.new × (OrderInRange SIZE self.old.order → OrderInRange SIZE self.new.order) }
     {
         self.rows = matrix;
         let most = scale(&self.rows, n);
         self.complete = regular(most) && self.triangular(n, most);
     }
 
-    // The solution of the system whose matrix was factored, with this right side.
+    // The solution of the system whose matrix was factored, with this right side, whatever the order holds: by a row that is not one of the 32 there is none.
     pub fn solve(&self, n: usize, right: Row) -> Option<Row>
+        requires { n ≤ SIZE }
+        ensures { result ≡ solved_by n self.now right }
+    {
+        if self.complete && !are_rows(&self.order[..n]) {
+            return None;
+        }
+        self.solve_in_range(n, right)
+    }
+
+    // The same, where the order of a complete elimination is in range.
+    pub fn solve_in_range(&self, n: usize, right: Row) -> Option<Row>
         requires { (n ≤ SIZE) × (self.now.complete ≡ true → OrderInRange n self.now.order) }
         ensures { result ≡ solved_by n self.now right }
     {
@@ -110,6 +121,13 @@ fn backward(matrix: &Matrix, right: Row, n: usize) -> Row
     x
 }
 
+// Whether each is one of the 32.
+fn are_rows(order: &[usize]) -> bool
+    ensures { result ≡ list_all (λ p. ltb p SIZE) order.now }
+{
+    order.iter().all(|p| *p < SIZE)
+}
+
 // Whether all are finite.
 fn all_finite(values: &[f64]) -> bool
     ensures { result ≡ list_all finite values.now }
@@ -142,4 +160,49 @@ fn forward(multipliers: &Matrix, order: &[usize; SIZE], right: Row, n: usize) ->
         clear(&mut x, &multipliers[k], n, k);
     }
     x
+}
+
+#[cfg(test)]
+mod tests {
+    use super::*;
+
+    // 2x + y = 3 and x + 3y = 4, by x = y = 1.
+    fn matrix() -> Matrix {
+        let mut rows = [[0.0; SIZE]; SIZE];
+        rows[0][0] = 2.0;
+        rows[0][1] = 1.0;
+        rows[1][0] = 1.0;
+        rows[1][1] = 3.0;
+        rows
+    }
+
+    fn right() -> Row {
+        let mut right = [0.0; SIZE];
+        right[0] = 3.0;
+        right[1] = 4.0;
+        right
+    }
+
+    #[test]
+    fn solves_what_is_factored(rt: HostRuntime) {
+        let mut factors = Factors::none();
+        assert!(rt;
+            factors.solve(2, right()).is_none(),
+            "no matrix is factored"
+        );
+        factors.factor(2, matrix());
+        let x = factors.solve(2, right()).unwrap_or([0.0; SIZE]);
+        assert_eq!(rt; x[0], 1.0);
+        assert_eq!(rt; x[1], 1.0);
+    }
+
+    #[test]
+    fn solves_by_no_row_that_is_not_there(rt: HostRuntime) {
+        let mut factors = Factors::none();
+        factors.factor(2, matrix());
+        factors.order[1] = SIZE;
+        assert!(rt; factors.solve(2, right()).is_none());
+        let x = factors.solve(1, right()).unwrap_or([0.0; SIZE]);
+        assert_eq!(rt; x[0], 1.5, "the first row alone");
+    }
 }

@@ -149,5 +149,5 @@ pub fn solve(n: usize, matrix: Matrix, right: Row) -> Option<Row>
 {
     let mut factors = Factors::none();
     factors.factor(n, matrix);
-    factors.solve(n, right)
+    factors.solve_in_range(n, right)
 }

@@ -19,7 +19,7 @@ use Rattle.compact.specs.declared.Shape.{Shape}
 use Rattle.compact.specs.declared.Model.{Model}
 use Rattle.compact.specs.State.{compact_of, Prepared, Modelled, Multiplied}
 use Rattle.compact.proofs.Laws.{tab-get, tab_same, pairs_count}
-use Rattle.compact.proofs.Models.{compact_kept, compact_upd, modelled_kept, prepared_upd}
+use Rattle.compact.proofs.Models.{compact_kept, compact_upd, modelled_kept, modelled_upd, prepared_upd}
 use Rattle.subspace.specs.State.{plain_in, weighted_in, moved_in, any_free_at, weights_at, product_at, residual_from, residual_at}
 use Rattle.subspace.specs.State.{corrections_at, steps_at, moved_at, moved_by_share_at, free_minimum_at, minimum_at, Makes}
 
@@ -57,9 +57,13 @@ moves n a b alpha ok e f =
 
 -- ---- the residual
 
-pub differenced : {m : Model} {a b : Vecs} (q r : ℕ) → b ≡ difference_of m.shape.n vector_displacement q r a → Prepared m a → Prepared m b
+pub differenced : {m : Model} {a b : Vecs} (q r : ℕ) → b ≡ difference_of m.shape.n vector_displacement q r a → Modelled m a → Modelled m b
 unfolding difference_of
-differenced {m} {a} q r e k = rw e (prepared_upd vector_displacement (difference m.shape.n (a q) (a r)) (omega arith) k)
+differenced {m} {a} q r e k = rw e (modelled_upd vector_displacement (difference m.shape.n (a q) (a r)) (omega arith) k)
+
+pub prepared_differenced : {m : Model} {a b : Vecs} (q r : ℕ) → b ≡ difference_of m.shape.n vector_displacement q r a → Prepared m a → Prepared m b
+unfolding difference_of
+prepared_differenced {m} {a} q r e k = rw e (prepared_upd vector_displacement (difference m.shape.n (a q) (a r)) (omega arith) k)
 
 product_is : (h : Shape) (theta : Float) (a b d : Vecs) (ok : Bool) → b ≡ difference_of h.n vector_displacement vector_cauchy vector_x a
     → Multiplied h theta vector_product_z vector_displacement b ok d

@@ -9,4 +9,4 @@ unfolding of_bits
 returns-then-model-eq0 c = unweighed _ _ _ _ c.if-model-eq0.true
 
 pub returns : goal.returns
-returns c = c.solve.ensures ∙ weighed _ _ _ _ c.if-model-eq0.false c.requires.1 c.right_side-right.ensures
+returns c = c.solve_in_range.ensures ∙ weighed _ _ _ _ c.if-model-eq0.false c.requires.1 c.right_side-right.ensures

@@ -8,7 +8,7 @@ use Rattle.compact.proofs.Model.build_block.Goals as goal
 
 pub loop-i-init : goal.loop-i-init
 unfolding of_bits
-loop-i-init c = record { shape = refl; theta = refl; rows = filling_all }
+loop-i-init c = record { shape = refl; theta = refl; factors = refl; rows = filling_all }
 
 pub block_row-row-requires : goal.block_row-row-requires
 block_row-row-requires c =
@@ -19,10 +19,15 @@ block_row-row-requires c =
 pub loop-i-preserved : goal.loop-i-preserved
 loop-i-preserved c =
     let made = c.loop-i.invariant in
-    record { shape = made.shape; theta = made.theta; rows = filling_more made.rows refl (omega (arith, filled_count made.rows)) c.block_row-row.ensures }
+    record {
+      shape = made.shape;
+      theta = made.theta;
+      factors = made.factors;
+      rows = filling_more made.rows refl (omega (arith, filled_count made.rows)) c.block_row-row.ensures;
+    }
 
 pub returns : goal.returns
 returns c =
     let made = c.loop-i.invariant in
     let count = ap (λ (h : Shape). h.pairs) made.shape in
-    (made.shape, made.theta, rw (← made.shape, ← made.theta) (rw pairs_count (filling_padded made.rows (omega (arith, count)))))
+    (made.shape, made.theta, rw (← made.shape, ← made.theta) (rw pairs_count (filling_padded made.rows (omega (arith, count)))), made.factors)

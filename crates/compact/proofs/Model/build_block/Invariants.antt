@@ -15,5 +15,6 @@ invariant-loop-i l =
     record {
       shape : h ≡ l.fn.self.shape;
       theta : l.self.theta ≡ l.fn.self.theta;
+      factors : l.self.factors ≡ l.fn.self.factors;
       rows : Filling zero_row 32 (λ (i : ℕ). padded zero64 (2 * h.pairs) (entries i)) l.self.block l.i;
     }

@@ -1,31 +1,19 @@
--- `Factors::solve` meets its contract. Assumes nothing.
+-- `Factors::solve` meets its contract: by a row that is not one of the 32 there is no solution. Assumes nothing.
+use mathlib.Core.Path.{sym, ◌∙◌}
 use native.Mathlib.Omega.{arith}
-use Rattle.solve.specs.Factors.{solved_by}
-use Rattle.solve.proofs.Steps.{neither, finite_to, if_true}
+use borrow.Author.Tests.{ltb-false}
+use lib.Dec.{ltb}
+use lib.ListN.{take, get_or}
+use lib.Seq.{get_or-take, length-take-le}
+use Prim.Native.Nat.{ℕ, ◌<◌, ◌≤◌}
+use Rattle.solve.proofs.Range.{one_not, unsolved}
 use Rattle.solve.proofs.factors.Factors.solve.Goals as goal
-use Rattle.solve.proofs.factors.Factors.solve.Goals.{then-not-self-via-then-not-self, then-not-self-via-else-not-self+then-not-all_finite}
 
-pub returns-then-not-self : goal.returns-then-not-self
-unfolding solved_by
-returns-then-not-self c =
-    elim c.then-not-self.branch [
-      | then-not-self-via-then-not-self w ↦ rw w.if-not-self.true (neither _)
-      | then-not-self-via-else-not-self+then-not-all_finite w ↦
-          rw (← finite_to c.args.right c.args.n (omega arith), ← w.all_finite.ensures, w.if-not-all_finite.true)
-    ]
-
-pub returns : goal.returns
-unfolding solved_by
-returns c =
-    rw (
-      c.then_some.ensures,
-      if_true,
-      c.if-not-self.false,
-      ← finite_to c.args.right c.args.n (omega arith),
-      ← c.all_finite.ensures,
-      c.if-not-all_finite.false,
-      ← c.forward-eliminated.ensures,
-      ← c.backward-x.ensures,
-      ← finite_to c.backward-x.result c.args.n (omega arith),
-      ← c.all_finite-2.ensures,
-    )
+pub returns-then-not-are_rows : goal.returns-then-not-are_rows
+returns-then-not-are_rows c =
+    let f = c.args.self.now in
+    let rows = take c.args.n f.order in
+    let out = one_not (λ (p : ℕ). ltb p 32) 0 rows (sym c.are_rows.ensures ∙ c.if-not-are_rows.true) in
+    let k : out.0 < c.args.n = omega (arith, out.1, length-take-le c.args.n f.order (omega arith)) in
+    let past : 32 ≤ get_or rows out.0 0 = ltb-false (get_or rows out.0 0) 32 out.2 in
+    sym (unsolved f c.args.right k (omega (arith, past, get_or-take c.args.n f.order out.0 0 k)))
