@@ -17,7 +17,7 @@ use Rattle.definition.specs.Compact.{Compact, pair_of, column_word, column_dot, 
 use Rattle.area.specs.Area.{Vecs, upd, copy_of, view, rowwise, first_pair}
 use Rattle.area.proofs.Laws.{length-view, upd_other}
 use Rattle.solve.specs.Factors.{solved_by}
-use Rattle.solve.proofs.Steps.{factors_solve}
+use Rattle.solve.proofs.Steps.{FactorsMake, make_solve}
 use Rattle.compact.specs.declared.Shape.{Shape}
 use Rattle.compact.specs.declared.Model.{Model}
 use Rattle.compact.specs.State.{column_slot, pairs_of, compact_of, Sound, Slot, Laid, PairsKept, Prepared, Multiplied, less_to}
@@ -173,11 +173,17 @@ solved_block h theta v q m y d e f =
     rw (pairs_count h v, ne_eqb h.pairs 0 d) (λ i. solve (2 * h.pairs) (rw (pairs_count h v) at e i) (rw (pairs_count h v) at f i))
 
 -- and by its factors
+pub make_weighed : (w : Model) (v : Vecs) (q : ℕ) (y : List Float) → (w.shape.pairs ≡ 0 → ⊥)
+    → FactorsMake (2 * w.shape.pairs) (block w.shape.n (compact_of w.shape w.theta v)) w.factors → y ≡ right_side w.shape.n (compact_of w.shape w.theta v) (v q)
+    → solved_by (2 * w.shape.pairs) w.factors y ≡ weights w.shape.n (compact_of w.shape w.theta v) (v q)
+make_weighed w v q y d e f =
+    make_solve (2 * w.shape.pairs) (block w.shape.n (compact_of w.shape w.theta v)) w.factors e y
+    ∙ solved_block w.shape w.theta v q (block w.shape.n (compact_of w.shape w.theta v)) y d refl f
+
 pub weighed : (w : Model) (v : Vecs) (q : ℕ) (y : List Float) → (w.shape.pairs ≡ 0 → ⊥) → Prepared w v
     → y ≡ right_side w.shape.n (compact_of w.shape w.theta v) (v q)
     → solved_by (2 * w.shape.pairs) w.factors y ≡ weights w.shape.n (compact_of w.shape w.theta v) (v q)
-weighed w v q y d e f =
-    factors_solve y e.factors ∙ solved_block w.shape w.theta v q (block w.shape.n (compact_of w.shape w.theta v)) y d refl f
+weighed w v q y d e f = make_weighed w v q y d e.factors.is f
 
 pub unweighed : (h : Shape) (theta : Float) (v : Vecs) (q : ℕ) → h.pairs ≡ 0 → Some zero_row ≡ weights h.n (compact_of h theta v) (v q)
 unfolding weights

@@ -1,20 +1,18 @@
 -- What later crates need of a model: it stays while the vectors from the pairs on stay, and its entries. Assumes nothing.
 use mathlib.Core.Path.{◌≡◌, refl, sym, ap, subst, ◌∙◌}
-use mathlib.Core.Bool.{cond}
 use mathlib.Core.List.{List, []}
-use Rattle.std.specs.Prelude.{Option, None}
 use Prim.Native.Nat.{ℕ, ◌+◌, ◌*◌, ◌≤◌, ◌<◌}
 use native.Mathlib.Omega.{arith}
 use lib.Ieee.{Float, nan}
 use Rattle.definition.specs.Number.{zero64}
 use Rattle.definition.specs.Vector.{tab, word}
-use Rattle.definition.specs.Solve.{Matrix, System, system, entry, scale_of, triangular}
+use Rattle.definition.specs.Solve.{Matrix, entry}
 use Rattle.definition.specs.Compact as C
 use Rattle.area.specs.Area.{Vecs, upd, first_pair}
 use Rattle.area.proofs.Laws.{upd_other}
-use Rattle.solve.specs.Steps.{regular}
-use Rattle.solve.specs.Factors.{taken, Factored}
+use Rattle.solve.specs.Factors.{Factored}
 use Rattle.solve.proofs.Range.{factored_of}
+use Rattle.solve.proofs.Steps.{FactorsMake}
 use Rattle.compact.specs.declared.Shape.{Shape}
 use Rattle.compact.specs.declared.Model.{Model}
 use Rattle.compact.specs.State.{pair_slot, column_slot, pair_at, pairs_of, compact_of, Sound, Laid, PairsKept, Assembled, Prepared, Modelled}
@@ -54,15 +52,9 @@ prepared_kept {w} {a} b k r = record {
       subst (λ (c : C.Compact). Factored (2 * w.shape.pairs) (C.block w.shape.n c) w.factors) (sym (compact_kept w.shape w.theta a b k)) r.factors;
 }
 
--- the elimination of a by its first n rows and columns, where its scale is regular
-abbrev eliminated_by : ℕ → Matrix → List Float → Option System
-eliminated_by n a b = cond (regular (scale_of n a)) (triangular n (scale_of n a) (system a b)) None
-
 -- the columns, the block, and what its factors make of every right side are the whole of it: the order is in range by that
 pub modelled_of : {w : Model} {v : Vecs} {size : ℕ} → Sound w.shape size → Laid w.shape w.theta v
-    → w.block ≡ C.block w.shape.n (compact_of w.shape w.theta v)
-    → ((b : List Float) → taken w.factors.complete (2 * w.shape.pairs) b w.factors ≡ eliminated_by (2 * w.shape.pairs) w.block b)
-    → Modelled w v
+    → w.block ≡ C.block w.shape.n (compact_of w.shape w.theta v) → FactorsMake (2 * w.shape.pairs) w.block w.factors → Modelled w v
 modelled_of s laid block is = record { laid = laid; block = block; factors = factored_of (omega (arith, s.few, s.most)) is }
 
 -- what a model is enough for

@@ -159,7 +159,7 @@ pub struct Model {
 impl Model {
     // A model that is not built.
     pub fn new(shape: Shape, theta: f64) -> Self
-        ensures { (result.shape ≡ shape) × (result.theta ≡ theta) × OrderInRange SIZE result.factors.order }
+        ensures { (result.shape ≡ shape) × (result.theta ≡ theta) × ((m : ℕ) → OrderInRange m result.factors.order) }
     {
         let factors = Factors::none();
         Model {
@@ -286,7 +286,7 @@ impl Model {
     pub fn build(&mut self, area: &mut [f64])
         requires { Sound self.old.shape (length area.old) }
         ensures { Built self.old.shape self.old.theta area.old self.new area.new
-            × (OrderInRange SIZE self.old.factors.order → OrderInRange SIZE self.new.factors.order) }
+            × ((m : ℕ) → OrderInRange m self.old.factors.order → OrderInRange m self.new.factors.order) }
     {
         self.lay_columns(area);
         self.build_block(area);

@@ -23,7 +23,7 @@ use Rattle.definition.specs.Solve.{pivots, on_column, column, triangular, back_r
 use Rattle.solve.specs.declared.factors.Factors.{Factors}
 use Rattle.solve.specs.Steps.{cleared_to, stepped, forward_to, OrderInRange, regular}
 use Rattle.solve.specs.Factors.{taken, Triangular, Factored, solved_by}
-use Rattle.solve.proofs.Steps.{Columns}
+use Rattle.solve.proofs.Steps.{ColumnsMake, Columns, FactorsMake}
 
 -- ---- words that are a NaN
 
@@ -200,8 +200,7 @@ lone_others p i d = nan_set (replicate (suc p) nan) p i one (λ e. absurd (d e))
 lone_one : (p : ℕ) → word (lone p) p ≡ one
 lone_one p = get_or-set_same (replicate (suc p) nan) p one nan (rw length-replicate (omega arith))
 
-pub exchanged_below : {n k : ℕ} (scale : Float) (a t f : Matrix) (order : List ℕ) → k ≤ n
-    → ((b : List Float) → Some (system t (forward_to k n f order b)) ≡ fold_to k (column n scale) (Some (system a b)))
+pub exchanged_below : {n k : ℕ} (scale : Float) (a t f : Matrix) (order : List ℕ) → k ≤ n → ColumnsMake n scale a t f order k
     → (j : ℕ) → j < k → get_or order j 0 < n
 unfolding is_nan
 exchanged_below {n} {k} scale a t f order l is j h =
@@ -227,9 +226,7 @@ pub triangular_of : {n : ℕ} {scale : Float} {a : Matrix} {ok : Bool} {f : Fact
 triangular_of {n} {scale} {a} {ok} {f} l is =
     record { within = λ e. in_range scale a f l (λ b. ap (λ (t : Bool). taken t n b f) (sym e) ∙ is b); is = is }
 
-pub factored_of : {n : ℕ} {a : Matrix} {f : Factors} → n ≤ 32
-    → ((b : List Float) → taken f.complete n b f ≡ cond (regular (scale_of n a)) (triangular n (scale_of n a) (system a b)) None)
-    → Factored n a f
+pub factored_of : {n : ℕ} {a : Matrix} {f : Factors} → n ≤ 32 → FactorsMake n a f → Factored n a f
 factored_of {n} {a} {f} l is = record { within = λ e. go (regular (scale_of n a)) (λ b. ap (λ (t : Bool). taken t n b f) (sym e) ∙ is b); is = is }
   where
     go : (t : Bool) → ((b : List Float) → taken true n b f ≡ cond t (triangular n (scale_of n a) (system a b)) None) → OrderInRange n f.order
@@ -237,8 +234,7 @@ factored_of {n} {a} {f} l is = record { within = λ e. go (regular (scale_of n a
     go false r = absurd (none_is (sym (r [])))
 
 pub columns_of : {n : ℕ} (scale : Float) (a t f : Matrix) (order : List ℕ) {k : ℕ} → n ≤ 32 → k ≤ n → length f ≡ 32 → length order ≡ 32
-    → ((b : List Float) → Some (system t (forward_to k n f order b)) ≡ fold_to k (column n scale) (Some (system a b)))
-    → Columns n scale a t f order k
+    → ColumnsMake n scale a t f order k → Columns n scale a t f order k
 columns_of {n} scale a t f order {k} l m rows places is = record {
   upto = m;
   rows = rows;
@@ -246,14 +242,6 @@ columns_of {n} scale a t f order {k} l m rows places is = record {
   within = λ j h. let below = exchanged_below scale a t f order m is j h in omega (arith, below);
   is = is;
 }
-
--- an order of 32 rows is read at its places, and past them it says 0
-pub in_range_everywhere : (order : List ℕ) → length order ≡ 32 → OrderInRange 32 order → (k : ℕ) → get_or order k 0 < 32
-in_range_everywhere order e r k =
-    elim (cases_lt k 32) [
-      | inl l ↦ r k l
-      | inr l ↦ rw (get_or-eq_default order 0 {n = k} (omega (arith, e))) (omega arith)
-    ]
 
 -- one more row of the 32 in it
 pub range_set : {n : ℕ} (order : List ℕ) (k row : ℕ) → row < 32 → OrderInRange n order → OrderInRange n (set order k row)
@@ -336,12 +324,12 @@ never : (t : Bool) → (t && false) ≡ false
 never true = refl
 never false = refl
 
-not_finite : (v : List Float) (k : ℕ) → word v k ≡ nan → (n : ℕ) → k < n → all_finite n v ≡ false
+nan_not_finite : (v : List Float) (k : ℕ) → word v k ≡ nan → (n : ℕ) → k < n → all_finite n v ≡ false
 unfolding fold_to
-not_finite v k e zero l = absurd (omega arith)
-not_finite v k e (suc n) l =
+nan_not_finite v k e zero l = absurd (omega arith)
+nan_not_finite v k e (suc n) l =
     elim (cases_lt k n) [
-      | inl u ↦ ap (λ (t : Bool). t && finite (word v n)) (not_finite v k e n u)
+      | inl u ↦ ap (λ (t : Bool). t && finite (word v n)) (nan_not_finite v k e n u)
       | inr u ↦
           let q : n ≡ k = omega (arith, u) in
           ap (λ (t : Bool). all_finite n v && t) (ap (λ (i : ℕ). finite (word v i)) q ∙ ap finite e) ∙ never (all_finite n v)
@@ -357,7 +345,7 @@ unsolved {n} f b {k} l e = go (all_finite n b) f.complete
     none : finite_only n x ≡ None
     none =
         let there = (forward_lost n f.multipliers f.order b k e n l (omega arith)).0 in
-        rw (not_finite x k (nan_backward n (system f.rows (forward_to n n f.multipliers f.order b)) k there l n (omega arith) (omega arith)) n l)
+        rw (nan_not_finite x k (nan_backward n (system f.rows (forward_to n n f.multipliers f.order b)) k there l n (omega arith) (omega arith)) n l)
 
     go : (g c : Bool) → cond g (taken c n b f and_then λ s. finite_only n (backward n s)) None ≡ None
     go true true = none

@@ -25,7 +25,7 @@ use Rattle.area.proofs.Laws.{looped_stays, fold_first}
 use Rattle.solve.specs.declared.Cleared.{Cleared}
 use Rattle.solve.specs.declared.factors.Factors.{Factors}
 use Rattle.solve.specs.Steps.{cleared_to, stepped, forward_to, Eliminates, regular}
-use Rattle.solve.specs.Factors.{Clears, Triangular, Factored, solved_by}
+use Rattle.solve.specs.Factors.{Clears, taken, Triangular, Factored, solved_by}
 
 -- ---- a loop over a .. n - 1: s is what z has become at turn i
 
@@ -194,27 +194,46 @@ columns_more {n} {scale} {a} {t} {f} {p} {k} {c} {u} r l top e = record {
       ∙ ap (column n scale k) (r.is b));
 }
 
+-- what k columns make of every right side, wherever the rows exchanged stand
+abbrev pub ColumnsMake : ℕ → Float → Matrix → Matrix → Matrix → List ℕ → ℕ → Type 0
+ColumnsMake n scale a t f p k = (b : List Float) → Some (system t (forward_to k n f p b)) ≡ fold_to k (column n scale) (Some (system a b))
+
+pub make_stopped : {n : ℕ} (scale : Float) (a t f : Matrix) (p : List ℕ) {k : ℕ} {u : Matrix} → ColumnsMake n scale a t f p k → k < n
+    → Clears n scale k t None u → (b : List Float) → None ≡ triangular n scale (system a b)
+unfolding triangular fold_to
+make_stopped {n} scale a t f p {k} r l e b =
+    looped_stays {n = n} {step = column n scale} {z = Some (system a b)} {s = None} {i = k + 1} (λ j. refl)
+    (record { upto = omega arith; is = rw add-one (e.is (forward_to k n f p b) ∙ ap (column n scale k) (r b)) })
+
+pub make_done : {n : ℕ} (scale : Float) (a t f : Matrix) (p : List ℕ) {k : ℕ} → ColumnsMake n scale a t f p k → k ≡ n
+    → (b : List Float) → Some (system t (forward_to n n f p b)) ≡ triangular n scale (system a b)
+unfolding triangular
+make_done scale a t f p r e b = rw e at (r b)
+
 pub columns_stopped : {n : ℕ} {scale : Float} {a t f : Matrix} {p : List ℕ} {k : ℕ} {u : Matrix} (g : Factors)
     → Columns n scale a t f p k → k < n → Clears n scale k t None u → Triangular n scale a false g
-unfolding triangular fold_to
-columns_stopped {n} {scale} {a} {t} {f} {p} {k} g r l e = record {
-  within = λ d. absurd (false≢true d);
-  is = λ b.
-      looped_stays {n = n} {step = column n scale} {z = Some (system a b)} {s = None} {i = k + 1} (λ j. refl)
-      (record { upto = omega arith; is = rw add-one (e.is (forward_to k n f p b) ∙ ap (column n scale k) (r.is b)) });
-}
+columns_stopped {n} {scale} {a} {t} {f} {p} {k} g r l e =
+    record { within = λ d. absurd (false≢true d); is = make_stopped scale a t f p r.is l e }
 
 pub columns_done : {n : ℕ} {scale : Float} {a : Matrix} {k : ℕ} (g : Factors) → Columns n scale a g.rows g.multipliers g.order k → n ≤ k
     → Triangular n scale a true g
-unfolding triangular
-columns_done {n} {scale} {a} {k} g r l =
-    let e : k ≡ n = omega (arith, r.upto) in
-    record { within = λ d j h. r.within j (omega arith); is = λ b. rw e at (r.is b) }
+columns_done {n} {scale} {a} {k} g r l = record {
+  within = λ d j h. r.within j (omega arith);
+  is = make_done scale a g.rows g.multipliers g.order r.is (omega (arith, r.upto));
+}
 
 -- ---- the factors, and the solution by them
 
+-- what the factors make of every right side: the elimination of a by its first n rows and columns, where its scale is regular
+abbrev pub FactorsMake : ℕ → Matrix → Factors → Type 0
+FactorsMake n a f = (b : List Float) → taken f.complete n b f ≡ cond (regular (scale_of n a)) (triangular n (scale_of n a) (system a b)) None
+
+pub make_regular : (n : ℕ) (a : Matrix) {s : Float} (f : Factors) → s ≡ scale_of n a → regular s ≡ true
+    → ((b : List Float) → taken f.complete n b f ≡ triangular n s (system a b)) → FactorsMake n a f
+make_regular n a f e h r b = r b ∙ rw (← e, h)
+
 pub factors : {n : ℕ} {a : Matrix} {s : Float} (f : Factors) → s ≡ scale_of n a → regular s ≡ true → Triangular n s a f.complete f → Factored n a f
-factors f e h r = record { within = r.within; is = λ b. r.is b ∙ rw (← e, h) }
+factors {n} {a} f e h r = record { within = r.within; is = make_regular n a f e h r.is }
 
 pub finite_to : (b : List Float) (n : ℕ) → n ≤ length b → list_all finite (take n b) ≡ all_finite n b
 unfolding fold_to
@@ -238,10 +257,13 @@ pub neither : {A : Type 0} (g : Bool) → ◌≡◌ {A = Option A} None (cond g 
 neither true = refl
 neither false = refl
 
-pub factors_solve : {n : ℕ} {a : Matrix} {f : Factors} (b : List Float) → Factored n a f → solved_by n f b ≡ solve n a b
+pub make_solve : (n : ℕ) (a : Matrix) (f : Factors) → FactorsMake n a f → (b : List Float) → solved_by n f b ≡ solve n a b
 unfolding solved_by solve
-factors_solve {n} {a} b r =
+make_solve n a f r b =
     let s = scale_of n a in
     let back : System → Option (List Float) = λ s. finite_only n (backward n s) in
-    ap (λ (o : Option System). cond (all_finite n b) (o and_then back) None) (r.is b)
+    ap (λ (o : Option System). cond (all_finite n b) (o and_then back) None) (r b)
     ∙ tested back (finite s) (not (Ieee.eq s zero64)) (all_finite n b) (triangular n s (system a b))
+
+pub factors_solve : {n : ℕ} {a : Matrix} {f : Factors} (b : List Float) → Factored n a f → solved_by n f b ≡ solve n a b
+factors_solve {n} {a} {f} b r = make_solve n a f r.is b

@@ -1,5 +1,5 @@
 // What the elimination of a matrix leaves for every right side, and the solution by it.
-ghost use Rattle.std.specs.Prelude.{◌≡◌, true, false, ltb, ◌+◌, ◌-◌, ◌≤◌, ◌<◌};
+ghost use Rattle.std.specs.Prelude.{◌≡◌, ℕ, true, false, ltb, ◌+◌, ◌-◌, ◌≤◌, ◌<◌};
 ghost use Rattle.std.specs.List.{list_all};
 ghost use Rattle.std.specs.Float.Ieee.Scale.{finite};
 ghost use Rattle.definition.specs.Number.{times};
@@ -27,7 +27,7 @@ impl Factors {
 
     // The factors of no matrix.
     pub fn none() -> Self
-        ensures { (result.complete ≡ false) × OrderInRange SIZE result.order }
+        ensures { (result.complete ≡ false) × ((m : ℕ) → OrderInRange m result.order) }
     {
         Factors {
             rows: [[0.0; SIZE]; SIZE],
@@ -41,7 +41,7 @@ impl Factors {
     // Kept: an index. Column k is cleared over all rows, and what that leaves goes to place k of two arrays.
     fn triangular(&mut self, n: usize, scale: f64) -> bool
         requires { n ≤ SIZE }
-        ensures { Triangular n scale self.old.rows result self.new × (OrderInRange SIZE self.old.order → OrderInRange SIZE self.new.order) }
+        ensures { Triangular n scale self.old.rows result self.new × ((m : ℕ) → OrderInRange m self.old.order → OrderInRange m self.new.order) }
     {
         for k in 0..n {
             let Some(cleared) = column(&mut self.rows, n, scale, k) else {
@@ -57,14 +57,15 @@ impl Factors {
     // The elimination of the first n rows and columns, once for every right side.
     pub fn factor(&mut self, n: usize, matrix: Matrix)
         requires { n ≤ SIZE }
-        ensures { Factored n matrix self.new × (OrderInRange SIZE self.old.order → OrderInRange SIZE self.new.order) }
+        ensures { Factored n matrix self.new × ((m : ℕ) → OrderInRange m self.old.order → OrderInRange m self.new.order) }
     {
         self.rows = matrix;
         let most = scale(&self.rows, n);
         self.complete = regular(most) && self.triangular(n, most);
     }
 
-    // The solution of the system whose matrix was factored, with this right side, whatever the order holds: by a row that is not one of the 32 there is none.
+    // The solution of the system whose matrix was factored, with this right side. The order may hold anything: by a row that is not one of
+    // the 32 there is no solution.
     pub fn solve(&self, n: usize, right: Row) -> Option<Row>
         requires { n ≤ SIZE }
         ensures { result ≡ solved_by n self.now right }
@@ -75,7 +76,7 @@ impl Factors {
         self.solve_in_range(n, right)
     }
 
-    // The same, where the order of a complete elimination is in range.
+    // The same without a look at the order, which is in range where the elimination is complete.
     pub fn solve_in_range(&self, n: usize, right: Row) -> Option<Row>
         requires { (n ≤ SIZE) × (self.now.complete ≡ true → OrderInRange n self.now.order) }
         ensures { result ≡ solved_by n self.now right }

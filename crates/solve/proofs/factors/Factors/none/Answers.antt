@@ -4,4 +4,4 @@ use Rattle.solve.proofs.Steps.{zeros_within}
 use Rattle.solve.proofs.factors.Factors.none.Goals as goal
 
 pub returns : goal.returns
-returns c = (refl, λ k _. zeros_within 32 k)
+returns c = (refl, λ m k _. zeros_within 32 k)
