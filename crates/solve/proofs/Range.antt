@@ -1,15 +1,14 @@
 -- The rows that an elimination exchanges are among its own, and no right side is solved by an order that leaves the right side's places. Assumes nothing.
 use mathlib.Core.Path.{◌≡◌, refl, sym, ap, subst, ◌∙◌}
-use mathlib.Core.Bool.{Bool, true, false, cond, ◌&&◌, true≢false}
+use mathlib.Core.Bool.{Bool, true, false, cond, true≢false}
 use mathlib.Core.List.{List, [], ◌∷◌}
 use mathlib.Core.Logic.{◌⊎◌, inl, inr}
 use Prim.Native.Nat.{ℕ, zero, suc, ◌+◌, ◌-◌, ◌≤◌, ◌<◌}
 use native.Mathlib.Omega.{arith}
-use Rattle.std.specs.Prelude.{Option, None, Some, is_some}
-use Rattle.std.specs.Option.{unwrap_or}
+use Rattle.std.specs.Prelude.{Option, None, Some}
 use Rattle.std.specs.List.{list_all}
-use Rattle.std.proofs.lemmas.Bool.{cases_lt}
-use Rattle.std.proofs.lemmas.Option.{cond_some}
+use Rattle.std.proofs.lemmas.Bool.{cases_lt, cases_eq, and_cases, and_left, and_right, cond_both}
+use Rattle.std.proofs.lemmas.Option.{none-some, same_Some, cond_some}
 use lib.ListN.{length, get_or, set, replicate, length-set, get_or-eq_default, length-replicate}
 use lib.Seq.{get_or-set_same, get_or-set_other}
 use lib.Ieee as Ieee
@@ -80,11 +79,11 @@ nan_stepped n k m b p i f g h = nan_cleared (n - (k + 1)) k m (swap_words b k p)
 
 -- ---- one word alone, at place p, that the steps meet or pass by
 
--- every word but that of place p
+-- every word but that of place p is a NaN
 abbrev Others : ℕ → List Float → Type 0
 Others p b = (i : ℕ) → (i ≡ p → ⊥) → word b i ≡ nan
 
--- every word from place k on
+-- every word from place k on is a NaN
 abbrev From : ℕ → List Float → Type 0
 From k b = (i : ℕ) → k ≤ i → word b i ≡ nan
 
@@ -107,12 +106,9 @@ module _ (n : ℕ) (f : Matrix) (order : List ℕ) (b : List Float) {p : ℕ} (o
       let m = row f j in
       let x = forward_to j n f order b in
       elim (seen j (omega arith)) [
-        | inl w ↦ elim (cases_lt q p) [
-          | inl u ↦ inl (passed_by n j m x (omega arith) (λ e. omega (arith, e, u)) w)
-          | inr u ↦ elim (cases_lt p q) [
-            | inl v ↦ inl (passed_by n j m x (omega arith) (λ e. omega (arith, e, v)) w)
-            | inr v ↦ inr (met n j m x (omega arith) (omega (arith, u, v)) w)
-          ]
+        | inl w ↦ elim (cases_eq q p) [
+          | inl e ↦ inr (met n j m x (omega arith) e w)
+          | inr d ↦ inl (passed_by n j m x (omega arith) d w)
         ]
         | inr w ↦ inr (lost_on n j m x q w)
       ]
@@ -134,17 +130,15 @@ module _ (n : ℕ) (f : Matrix) (order : List ℕ) (b : List Float) {p : ℕ} (o
 
 -- ---- what the definition's elimination leaves as it was
 
-either_below : (t : Bool) {x y n : ℕ} → x < n → y < n → cond t x y < n
-either_below true u v = u
-either_below false u v = v
-
 pivot_below : (n k : ℕ) (a : Matrix) → k < n → pivot_of n a k < n
 unfolding pivot_of fold_to
 pivot_below n k a l = go (n - (k + 1)) (omega arith)
   where
     go : (d : ℕ) → k + 1 + d ≤ n → fold_to d (λ d best. cond (magnitude_le (entry a best k) (entry a (k + 1 + d) k)) (k + 1 + d) best) k < n
     go zero h = l
-    go (suc d) h = either_below (magnitude_le (entry a _ k) (entry a (k + 1 + d) k)) (omega arith) (go d (omega arith))
+    go (suc d) h =
+        let low = go d (omega arith) in
+        cond_both (magnitude_le (entry a _ k) (entry a (k + 1 + d) k)) (k + 1 + d) _ (λ (i : ℕ). i < n) (λ e. omega arith) (λ e. low)
 
 right_kept : (n k p : ℕ) (s : System) (d : ℕ) → k + 1 + d ≤ p → word (fold_to d (λ d t. less_pivot n k (k + 1 + d) t) s).right p ≡ word s.right p
 unfolding fold_to
@@ -152,12 +146,6 @@ right_kept n k p s zero l = refl
 right_kept n k p s (suc d) l =
     let t = fold_to d (λ d t. less_pivot n k (k + 1 + d) t) s in
     get_or-set_other t.right (k + 1 + d) p _ nan (λ e. omega (arith, e)) ∙ right_kept n k p s d (omega arith)
-
-some_is : {A : Type 0} {x y : A} → ◌≡◌ {A = Option A} (Some x) (Some y) → x ≡ y
-some_is {A} {x} e = ap (λ (o : Option A). unwrap_or o x) e
-
-none_is : {A : Type 0} {x : A} → ◌≡◌ {A = Option A} None (Some x) → ⊥
-none_is {A} e = true≢false (sym (ap (λ (o : Option A). is_some o) e))
 
 module _ (n : ℕ) (scale : Float) (s : System) {p : ℕ} (l : n ≤ p) where
   column_kept : (j : ℕ) (u t : System) → j < n → column n scale j (Some u) ≡ Some t → word t.right p ≡ word u.right p
@@ -173,11 +161,11 @@ module _ (n : ℕ) (scale : Float) (s : System) {p : ℕ} (l : n ≤ p) where
 
   columns_kept : (j : ℕ) → j ≤ n → {t : System} → fold_to j (column n scale) (Some s) ≡ Some t → word t.right p ≡ word s.right p
   unfolding fold_to
-  columns_kept zero h e = ap (λ (r : System). word r.right p) (sym (some_is e))
+  columns_kept zero h e = ap (λ (r : System). word r.right p) (sym (same_Some _ _ e))
   columns_kept (suc j) h {t} e = go (fold_to j (column n scale) (Some s)) (λ u. columns_kept j (omega arith)) e
     where
       go : (o : Option System) → ((u : System) → o ≡ Some u → word u.right p ≡ word s.right p) → column n scale j o ≡ Some t → word t.right p ≡ word s.right p
-      go None f g = absurd (none_is g)
+      go None f g = absurd (none-some _ g)
       go (Some u) f g = column_kept j u t (omega arith) g ∙ f u refl
 
 -- ---- the rows exchanged are the elimination's own
@@ -214,7 +202,7 @@ exchanged_below {n} {k} scale a t f order l is j h =
           absurd (true≢false (ap is_nan (sym gone ∙ kept ∙ lone_one p)))
     ]
 
--- ---- so what the elimination gives for every right side says of the order too
+-- ---- so what the elimination makes of every right side says where the rows of the order are
 
 in_range : {n : ℕ} (scale : Float) (a : Matrix) (f : Factors) → n ≤ 32 → ((b : List Float) → taken true n b f ≡ triangular n scale (system a b))
     → OrderInRange n f.order
@@ -231,7 +219,7 @@ factored_of {n} {a} {f} l is = record { within = λ e. go (regular (scale_of n a
   where
     go : (t : Bool) → ((b : List Float) → taken true n b f ≡ cond t (triangular n (scale_of n a) (system a b)) None) → OrderInRange n f.order
     go true r = in_range (scale_of n a) a f l r
-    go false r = absurd (none_is (sym (r [])))
+    go false r = absurd (none-some _ (sym (r [])))
 
 pub columns_of : {n : ℕ} (scale : Float) (a t f : Matrix) (order : List ℕ) {k : ℕ} → n ≤ 32 → k ≤ n → length f ≡ 32 → length order ≡ 32
     → ColumnsMake n scale a t f order k → Columns n scale a t f order k
@@ -243,7 +231,7 @@ columns_of {n} scale a t f order {k} l m rows places is = record {
   is = is;
 }
 
--- one more row of the 32 in it
+-- an order in range stays so with one of the 32 put in it
 pub range_set : {n : ℕ} (order : List ℕ) (k row : ℕ) → row < 32 → OrderInRange n order → OrderInRange n (set order k row)
 range_set order k row l r = λ j h. held_set (λ (p : ℕ). p < 32) 0 (omega arith) order k j row (λ _. l) (λ _. r j h)
 
@@ -320,19 +308,13 @@ nan_backward n s k e l (suc d) h m =
     (λ q. over_nan _ _ (minus_nan _ _ (ap (word s.right) (sym q) ∙ e)))
     (λ q. nan_backward n s k e l d (omega arith) (omega (arith, q)))
 
-never : (t : Bool) → (t && false) ≡ false
-never true = refl
-never false = refl
-
 nan_not_finite : (v : List Float) (k : ℕ) → word v k ≡ nan → (n : ℕ) → k < n → all_finite n v ≡ false
 unfolding fold_to
 nan_not_finite v k e zero l = absurd (omega arith)
 nan_not_finite v k e (suc n) l =
     elim (cases_lt k n) [
-      | inl u ↦ ap (λ (t : Bool). t && finite (word v n)) (nan_not_finite v k e n u)
-      | inr u ↦
-          let q : n ≡ k = omega (arith, u) in
-          ap (λ (t : Bool). all_finite n v && t) (ap (λ (i : ℕ). finite (word v i)) q ∙ ap finite e) ∙ never (all_finite n v)
+      | inl u ↦ and_left (all_finite n v) (finite (word v n)) (nan_not_finite v k e n u)
+      | inr u ↦ let q : n ≡ k = omega (arith, u) in and_right (all_finite n v) (finite (word v n)) (ap finite (ap (word v) q ∙ e))
     ]
 
 pub unsolved : {n : ℕ} (f : Factors) (b : List Float) {k : ℕ} → k < n → length b ≤ get_or f.order k 0 → solved_by n f b ≡ None
@@ -352,13 +334,12 @@ unsolved {n} f b {k} l e = go (all_finite n b) f.complete
     go true false = refl
     go false c = refl
 
--- of a list that is not all so, one that is not
+-- of a list that does not pass a test throughout, an element that fails it
 pub one_not : {A : Type 0} (test : A → Bool) (z : A) (xs : List A) → list_all test xs ≡ false
     → (k : ℕ) × (k < length xs) × (test (get_or xs k z) ≡ false)
 one_not test z [] e = absurd (true≢false e)
-one_not test z (x ∷ xs) e = go (test x) refl (λ f. one_not test z xs (ap (λ (t : Bool). t && list_all test xs) (sym f) ∙ e))
-  where
-    go : (t : Bool) → test x ≡ t → (test x ≡ true → (k : ℕ) × (k < length xs) × (test (get_or xs k z) ≡ false))
-        → (k : ℕ) × (k < length (x ∷ xs)) × (test (get_or (x ∷ xs) k z) ≡ false)
-    go false f r = (0, omega arith, f)
-    go true f r = let s = r f in (suc s.0, omega (arith, s.1), s.2)
+one_not test z (x ∷ xs) e =
+    elim (and_cases (test x) (list_all test xs) e) [
+      | inl f ↦ (0, omega arith, f)
+      | inr g ↦ let s = one_not test z xs g in (suc s.0, omega (arith, s.1), s.2)
+    ]

@@ -64,8 +64,8 @@ impl Factors {
         self.complete = regular(most) && self.triangular(n, most);
     }
 
-    // The solution of the system whose matrix was factored, with this right side. The order may hold anything: by a row that is not one of
-    // the 32 there is no solution.
+    // The solution of the system whose matrix was factored, with this right side. The order may hold anything: where one of its first n
+    // places is no row of the 32, there is no solution.
     pub fn solve(&self, n: usize, right: Row) -> Option<Row>
         requires { n ≤ SIZE }
         ensures { result ≡ solved_by n self.now right }
@@ -76,7 +76,7 @@ impl Factors {
         self.solve_in_range(n, right)
     }
 
-    // The same without a look at the order, which is in range where the elimination is complete.
+    // The same without a look at the order: the caller knows that it is in range where the elimination is complete.
     pub fn solve_in_range(&self, n: usize, right: Row) -> Option<Row>
         requires { (n ≤ SIZE) × (self.now.complete ≡ true → OrderInRange n self.now.order) }
         ensures { result ≡ solved_by n self.now right }
