@@ -364,3 +364,26 @@ pub fn product(area: &mut [f64], model: &Model, to: usize, from: usize) -> bool
     less_columns(area, model, weights, to, from);
     area::all_finite(area, model.shape.n, to)
 }
+
+#[cfg(test)]
+mod tests {
+    use super::*;
+
+    // Reading at a row of the order is proved by what `Model::new` and `Model::build` say of it.
+    #[test]
+    fn exchanges_rows_that_are_there(rt: HostRuntime) {
+        let mut area = [1.0; 64];
+        let shape = Shape {
+            n: 1,
+            m: 1,
+            pairs: 1,
+            oldest: 0,
+        };
+        let rows = [true; SIZE];
+        let mut model = Model::new(shape, 1.0);
+        assert!(rt; rows[model.factors.order[SIZE - 1]]);
+        model.build(&mut area);
+        let order = model.factors.order;
+        assert!(rt; rows[order[SIZE - 1]]);
+    }
+}

@@ -5,7 +5,7 @@ ghost use Rattle.std.specs.Float.Ieee.Scale.{finite};
 ghost use Rattle.definition.specs.Number.{times};
 ghost use Rattle.definition.specs.Vector.{word, sum as sum_of};
 ghost use Rattle.definition.specs.Solve.{row, entry, system};
-ghost use Rattle.definition.specs.Solve.{back_row, backward as backward_of};
+ghost use Rattle.definition.specs.Solve.{back_row, backward as backward_of, solve as solve_of};
 ghost use Rattle.solve.specs.Steps.{OrderInRange, cleared_to, forward_to};
 
 use crate::{Cleared, Matrix, Row, SIZE, column, regular, scale};
@@ -167,6 +167,16 @@ fn forward(multipliers: &Matrix, order: &[usize; SIZE], right: Row, n: usize) ->
 mod tests {
     use super::*;
 
+    // Factored, and solved with a look at the order: the definition's solution.
+    fn solved(n: usize, matrix: Matrix, right: Row) -> Option<Row>
+        requires { n ≤ SIZE }
+        ensures { result ≡ solve_of n matrix right }
+    {
+        let mut factors = Factors::none();
+        factors.factor(n, matrix);
+        factors.solve(n, right)
+    }
+
     // 2x + y = 3 and x + 3y = 4, by x = y = 1.
     fn matrix() -> Matrix {
         let mut rows = [[0.0; SIZE]; SIZE];
@@ -186,13 +196,11 @@ mod tests {
 
     #[test]
     fn solves_what_is_factored(rt: HostRuntime) {
-        let mut factors = Factors::none();
         assert!(rt;
-            factors.solve(2, right()).is_none(),
+            Factors::none().solve(2, right()).is_none(),
             "no matrix is factored"
         );
-        factors.factor(2, matrix());
-        let x = factors.solve(2, right()).unwrap_or([0.0; SIZE]);
+        let x = solved(2, matrix(), right()).unwrap_or([0.0; SIZE]);
         assert_eq!(rt; x[0], 1.0);
         assert_eq!(rt; x[1], 1.0);
     }
